@@ -1,0 +1,24 @@
+// Document 01's limits, each named once for the code; specs/Limits.antt names them for the definitions.
+pub const SIGNALS: u32 = 64;
+
+pub const TASKS: u32 = 16;
+
+pub const PRIORITY: u32 = 16;
+
+pub const PORTS: u32 = 8;
+
+pub const TRANSITIONS: u32 = 32;
+
+pub const ACTIONS: u32 = 32;
+
+pub const ORDER: u32 = 32;
+
+pub const STATES: u32 = 16;
+
+pub const TIME: u32 = 1_000_000;
+
+pub const LAST_INSTANT: u32 = 999_999;
+
+pub const PLAN_BYTES: usize = 20_564;
+
+pub const EVENT_BYTES: usize = 16_384;

@@ -1,0 +1,29 @@
+-- Lists and tests that the papers' words come down to.
+use Prim.Native.Nat.{ℕ, zero, suc, _+_}
+use mathlib.Core.Bool.{Bool, true, false, not, _&&_}
+use mathlib.Core.List.{List, [], _∷_}
+use lib.ListN.{take, drop}
+use lib.Dec.{leb, eqb}
+
+-- f i, f (i + 1), .., n of them
+unfoldable pub tab : {A : Type 0} → (ℕ → A) → ℕ → ℕ → List A
+tab f i zero = []
+tab f i (suc n) = f i ∷ tab f (i + 1) n
+
+-- the part of a list that starts at a place and has a size
+abbrev pub part : List ℕ → ℕ → ℕ → List ℕ
+part xs start size = take size (drop start xs)
+
+-- low ≤ n ≤ high
+abbrev pub between : ℕ → ℕ → ℕ → Bool
+between low high n = leb low n && leb n high
+
+-- a test holds of each of a list
+unfoldable pub all : {A : Type 0} → (A → Bool) → List A → Bool
+all p [] = true
+all p (x ∷ xs) = p x && all p xs
+
+-- x is none of a list
+unfoldable pub absent : ℕ → List ℕ → Bool
+absent x [] = true
+absent x (y ∷ ys) = not (eqb x y) && absent x ys

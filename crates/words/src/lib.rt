@@ -1,0 +1,27 @@
+// Words of 4 bytes, lowest byte first: the numbers that plan files and event lists are made of.
+ghost use mathlib.Core.Path.{_≡_};
+ghost use Prim.Native.Nat.{_+_, _≤_};
+ghost use lib.ListN.{length};
+ghost use Rattle.words.specs.Words.{joined, fourAt, wordAt};
+
+// Four bytes as one number. Sums and products instead of shifts: the compiler makes one load of them.
+fn join(a: u8, b: u8, c: u8, d: u8) -> u32
+    ensures { λ r. ⌜ r ≡ joined a b c d ⌝ }
+{
+    (a as u32) + (b as u32) * 256 + (c as u32) * 65536 + (d as u32) * 16777216
+}
+
+// The four bytes from k on.
+fn four(bytes: &[u8], k: usize) -> u32
+    requires { ⌜ k + 4 ≤ length (now bytes) ⌝ }
+    ensures { λ r. ⌜ r ≡ fourAt (now (bytes .entry)) k ⌝ }
+{
+    join(bytes[k], bytes[k + 1], bytes[k + 2], bytes[k + 3])
+}
+
+// Word i, and 0 where no whole word i is left: total, so that no reader of a damaged file can stray.
+pub fn word(bytes: &[u8], i: usize) -> u32
+    ensures { λ r. ⌜ r ≡ wordAt (now (bytes .entry)) i ⌝ }
+{
+    if i < bytes.len() / 4 { four(bytes, i * 4) } else { 0 }
+}
