@@ -87,23 +87,29 @@ transitionsAt ws = outputsAt ws + outputCount ws
 abbrev pub actionsAt : List ℕ → ℕ
 actionsAt ws = transitionsAt ws + transitionCount ws * 4
 
--- "(from, input position, order, to)": transition j of a body
-abbrev pub transitionOf : List ℕ → ℕ → Transition
-transitionOf ws j =
-    let at = transitionsAt ws + j * 4 in
-    record { from = word ws at; input = word ws (at + 1); order = word ws (at + 2); to = word ws (at + 3) }
+-- "(from, input position, order, to)": the transition at a word
+abbrev pub transitionAt : List ℕ → ℕ → Transition
+transitionAt ws at = record { from = word ws at; input = word ws (at + 1); order = word ws (at + 2); to = word ws (at + 3) }
 
--- "(state, kind, a, b, c)": action j of a body
-abbrev pub actionOf : List ℕ → ℕ → Action
-actionOf ws j =
-    let at = actionsAt ws + j * 5 in
+-- "(state, kind, a, b, c)": the action at a word
+abbrev pub actionAt : List ℕ → ℕ → Action
+actionAt ws at =
     record { state = word ws at; kind = word ws (at + 1); a = word ws (at + 2); b = word ws (at + 3); c = word ws (at + 4) }
+
+-- n transitions from a word on
+abbrev pub transitionsFrom : List ℕ → ℕ → ℕ → List Transition
+transitionsFrom ws first n = tab (λ j. transitionAt ws (first + j * 4)) 0 n
+
+-- n actions from a word on
+abbrev pub actionsFrom : List ℕ → ℕ → ℕ → List Action
+actionsFrom ws first n = tab (λ j. actionAt ws (first + j * 5)) 0 n
 
 unfoldable pub taskOf : List ℕ → Task
 taskOf ws = record {
     priority = word ws 0; period = word ws 1; deadline = word ws 2; execution = word ws 3; offset = word ws 4; kind = word ws 5;
     initial = word ws 6; inputs = values ws inputsAt (inputCount ws); outputs = values ws (outputsAt ws) (outputCount ws);
-    transitions = tab (transitionOf ws) 0 (transitionCount ws); actions = tab (actionOf ws) 0 (actionCount ws) }
+    transitions = transitionsFrom ws (transitionsAt ws) (transitionCount ws);
+    actions = actionsFrom ws (actionsAt ws) (actionCount ws) }
 
 -- ---- the whole plan
 pub record Plan : Type 0 where

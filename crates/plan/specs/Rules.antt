@@ -95,11 +95,14 @@ bodyRule s k =
     && transitionsRule (length (k .inputs)) (k .transitions)
     && all (actionRule (length (k .inputs)) (length (k .outputs)) (lowest k)) (k .actions)
 
--- ---- "for each task in turn 4, 5, 6": the bodies from task i on
+-- ---- "for each task in turn 4, 5, 6"
+abbrev pub oneTask : ℕ → ℕ → List ℕ → List Rule
+oneTask s i ws = rule 4 i (shapeRule ws) ∷ rule 5 i (timingRule (taskOf ws)) ∷ rule 6 i (bodyRule s (taskOf ws)) ∷ []
+
+-- the bodies from task i on
 unfoldable pub taskRules : ℕ → ℕ → List (List ℕ) → List Rule
 taskRules s i [] = []
-taskRules s i (ws ∷ rest) =
-    rule 4 i (shapeRule ws) ∷ rule 5 i (timingRule (taskOf ws)) ∷ rule 6 i (bodyRule s (taskOf ws)) ∷ taskRules s (i + 1) rest
+taskRules s i (ws ∷ rest) = oneTask s i ws ++ taskRules s (i + 1) rest
 
 -- ---- 7: "two tasks with one priority", 8: "a signal stands twice among all outputs"
 -- none of a list of numbers stands among those seen, nor earlier in the list

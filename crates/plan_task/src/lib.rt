@@ -1,0 +1,218 @@
+// Document 01, 'The plan file': the rules 4, 5 and 6 of one task, read from the part of the file that is its body.
+ghost use mathlib.Core.Path.{_≡_};
+ghost use Prim.Native.Nat.{_+_, _*_, _-_, _≤_, _<_};
+ghost use mathlib.Core.Bool.{cond, _||_, not};
+ghost use lib.Dec.{eqb, ltb};
+ghost use Rattle.words.specs.Words.{wordsOf};
+ghost use Rattle.lists.specs.Lists.{tab, all};
+ghost use Rattle.answers.specs.Answers.{said, firstBroken};
+ghost use Rattle.plan_task.specs.Places.{far};
+ghost use Rattle.plan.specs.File.{taskOf, values, transitionAt, transitionsFrom, actionAt, actionsFrom, inputsAt};
+ghost use Rattle.plan.specs.Rules.{shapeRule, timingRule, supervisorRule, controllerRule, transitionRule, sameOrder, transitionsRule, actionRule, lowest, bodyRule, oneTask};
+use answers::Answer;
+use words::word;
+
+// Rule 4. The counts are any 32-bit numbers: their sum is taken in 64 bits and cannot wrap.
+fn shape_holds(part: &[u8]) -> bool
+    ensures { λ r. ⌜ r ≡ shapeRule (wordsOf (now (part .entry))) ⌝ }
+{
+    let length = part.len() / 4;
+    let inputs = word(part, 7);
+    let outputs = word(part, 8);
+    let transitions = word(part, 9);
+    let actions = word(part, 10);
+    let formula = 11 + inputs as usize + outputs as usize + transitions as usize * 4 + actions as usize * 5;
+    (11 <= length)
+        & (inputs <= limits::PORTS)
+        & (outputs <= limits::PORTS)
+        & (transitions <= limits::TRANSITIONS)
+        & (actions <= limits::ACTIONS)
+        & (length == formula)
+}
+
+// Rule 5.
+fn timing_holds(part: &[u8]) -> bool
+    ensures { λ r. ⌜ r ≡ timingRule (taskOf (wordsOf (now (part .entry)))) ⌝ }
+{
+    let priority = word(part, 0);
+    let period = word(part, 1);
+    let deadline = word(part, 2);
+    let execution = word(part, 3);
+    let offset = word(part, 4);
+    let release = ((period == 0) & (offset == 0)) | ((period != 0) & (deadline <= period) & (offset < period));
+    ((1 <= priority) & (priority <= limits::PRIORITY))
+        & ((1 <= execution) & (execution <= limits::TIME))
+        & (period <= limits::TIME)
+        & (deadline <= limits::TIME)
+        & release
+}
+
+// Rule 6, the kind and what hangs on it.
+fn kind_holds(part: &[u8]) -> bool
+    ensures { λ r. ⌜ r ≡ (supervisorRule (taskOf (wordsOf (now (part .entry)))) || controllerRule (taskOf (wordsOf (now (part .entry))))) ⌝ }
+{
+    let kind = word(part, 5);
+    let initial = word(part, 6);
+    let inputs = word(part, 7);
+    let outputs = word(part, 8);
+    let transitions = word(part, 9);
+    let supervisor = (kind == 1) & ((1 <= initial) & (initial <= limits::STATES)) & (2 <= outputs);
+    let controller = (kind == 2) & (initial == 0) & (transitions == 0) & (2 <= inputs);
+    supervisor | controller
+}
+
+// Rule 6: whether the ports after the first `skip` ones, `count` of them, are signal numbers.
+fn signals_hold(part: &[u8], skip: u32, count: u32, signals: u32) -> bool
+    ensures { λ r. ⌜ r ≡ all (λ x. ltb x signals) (values (wordsOf (now (part .entry))) (inputsAt + skip) count) ⌝ }
+{
+    let start = 11 + skip as usize;
+    let mut good = true;
+    let mut j: u32 = 0;
+    while j < count {
+        let x = word(part, start + j as usize);
+        good = good & (x < signals);
+        j += 1;
+    }
+    good
+}
+
+// Rule 6, one transition by itself.
+fn transition_holds(part: &[u8], at: usize, inputs: u32) -> bool
+    requires { ⌜ at < far * 2 ⌝ }
+    ensures { λ r. ⌜ r ≡ transitionRule inputs (transitionAt (wordsOf (now (part .entry))) at) ⌝ }
+{
+    let from = word(part, at);
+    let input = word(part, at + 1);
+    let order = word(part, at + 2);
+    let to = word(part, at + 3);
+    ((1 <= from) & (from <= limits::STATES))
+        & ((1 <= to) & (to <= limits::STATES))
+        & (input < inputs)
+        & ((1 <= order) & (order <= limits::ORDER))
+}
+
+// Rule 6: whether transition j has an order of its own among those after it with the same 'from'.
+fn order_differs(part: &[u8], first: usize, j: u32, count: u32) -> bool
+    requires { ⌜ (first < far) × (j < count) ⌝ }
+    ensures { λ r. ⌜ r ≡ all (λ y. not (sameOrder (transitionAt (wordsOf (now (part .entry))) (first + j * 4)) y)) (tab (λ i. transitionAt (wordsOf (now (part .entry))) (first + i * 4)) (j + 1) (count - (j + 1))) ⌝ }
+{
+    let at = first + j as usize * 4;
+    let from = word(part, at);
+    let order = word(part, at + 2);
+    let mut good = true;
+    let mut k = j + 1;
+    while k < count {
+        let other = first + k as usize * 4;
+        let same = (from == word(part, other)) & (order == word(part, other + 2));
+        good = good & !same;
+        k += 1;
+    }
+    good
+}
+
+// Rule 6, the transitions.
+fn transitions_hold(part: &[u8], first: usize, count: u32, inputs: u32) -> bool
+    requires { ⌜ first < far ⌝ }
+    ensures { λ r. ⌜ r ≡ transitionsRule inputs (transitionsFrom (wordsOf (now (part .entry))) first count) ⌝ }
+{
+    let mut good = true;
+    let mut j: u32 = 0;
+    while j < count {
+        let one = transition_holds(part, first + j as usize * 4, inputs);
+        let others = order_differs(part, first, j, count);
+        good = good & (one & others);
+        j += 1;
+    }
+    good
+}
+
+// What rule 6 asks of an action's positions: the number of inputs and of outputs, and the lowest output that it may change.
+struct Ports {
+    inputs: u32,
+    outputs: u32,
+    lowest: u32,
+}
+
+// Rule 6, one action.
+fn action_holds(part: &[u8], at: usize, ports: Ports) -> bool
+    requires { ⌜ at < far * 2 ⌝ }
+    ensures { λ r. ⌜ r ≡ actionRule (ports .inputs) (ports .outputs) (ports .lowest) (actionAt (wordsOf (now (part .entry))) at) ⌝ }
+{
+    let state = word(part, at);
+    let kind = word(part, at + 1);
+    let a = word(part, at + 2);
+    let b = word(part, at + 3);
+    let c = word(part, at + 4);
+    let second = ((kind == 4) & (ports.lowest <= b) & (b < ports.outputs) & (b != a)) | ((kind != 4) & (b == 0));
+    ((1 <= state) & (state <= limits::STATES))
+        & ((1 <= kind) & (kind <= 4))
+        & (ports.lowest <= a)
+        & (a < ports.outputs)
+        & second
+        & ((kind == 1) | (c < ports.inputs))
+}
+
+// Rule 6, the actions.
+fn actions_hold(part: &[u8], first: usize, count: u32, ports: Ports) -> bool
+    requires { ⌜ first < far ⌝ }
+    ensures { λ r. ⌜ r ≡ all (actionRule (ports .inputs) (ports .outputs) (ports .lowest)) (actionsFrom (wordsOf (now (part .entry))) first count) ⌝ }
+{
+    let mut good = true;
+    let mut j: u32 = 0;
+    while j < count {
+        let one = action_holds(part, first + j as usize * 5, ports);
+        good = good & one;
+        j += 1;
+    }
+    good
+}
+
+// The lowest output that an action may change: a supervisor's first two are its state and 'updated'.
+fn lowest_output(kind: u32) -> u32
+    ensures { λ r. ⌜ r ≡ cond (eqb kind 1) 2 0 ⌝ }
+{
+    if kind == 1 { 2 } else { 0 }
+}
+
+// Rule 6.
+fn body_holds(part: &[u8], signals: u32) -> bool
+    ensures { λ r. ⌜ r ≡ bodyRule signals (taskOf (wordsOf (now (part .entry)))) ⌝ }
+{
+    let kind = word(part, 5);
+    let inputs = word(part, 7);
+    let outputs = word(part, 8);
+    let transitions = word(part, 9);
+    let actions = word(part, 10);
+    let first = 11 + inputs as usize + outputs as usize;
+    let lowest = lowest_output(kind);
+    kind_holds(part)
+        & signals_hold(part, 0, inputs, signals)
+        & signals_hold(part, inputs, outputs, signals)
+        & transitions_hold(part, first, transitions, inputs)
+        & actions_hold(
+            part,
+            first + transitions as usize * 4,
+            actions,
+            Ports {
+                inputs,
+                outputs,
+                lowest,
+            },
+        )
+}
+
+// Number and place for the task whose body this is: 4, 5, 6 or accepted.
+pub fn task_answer(part: &[u8], signals: u32, task: u32) -> Answer
+    ensures { λ r. ⌜ said r ≡ firstBroken (oneTask signals task (wordsOf (now (part .entry)))) ⌝ }
+{
+    if !shape_holds(part) {
+        return Answer::TaskShape { task };
+    }
+    if !timing_holds(part) {
+        return Answer::TaskTiming { task };
+    }
+    if !body_holds(part, signals) {
+        return Answer::TaskBody { task };
+    }
+    Answer::Accepted
+}
