@@ -48,6 +48,16 @@ all-zero (r ∷ rs) e = go (r .holds) (λ z. all-zero rs z) e
     go true f z = f z
     go false f z = absurd (false≢true z)
 
+-- two lists of rules hold where both do
+pub all-append : (xs ys : List Rule) → allHold (xs ++ ys) ≡ (allHold xs && allHold ys)
+unfolding allHold
+all-append [] ys = refl
+all-append (x ∷ xs) ys = go (x .holds) (all-append xs ys)
+  where
+    go : (b : Bool) → allHold (xs ++ ys) ≡ (allHold xs && allHold ys) → (b && allHold (xs ++ ys)) ≡ ((b && allHold xs) && allHold ys)
+    go true e = e
+    go false e = refl
+
 -- a refusal names a broken rule before which every rule holds
 pub record First (rs : List Rule) (v : Verdict) : Type 0 where
   pub before : List Rule

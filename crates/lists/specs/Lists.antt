@@ -1,5 +1,5 @@
 -- Lists and tests that the papers' words come down to.
-use Prim.Native.Nat.{ℕ, zero, suc, _+_}
+use Prim.Native.Nat.{ℕ, zero, suc, _+_, _≤_}
 use mathlib.Core.Bool.{Bool, true, false, not, _&&_}
 use mathlib.Core.List.{List, [], _∷_}
 use lib.ListN.{take, drop}
@@ -27,3 +27,18 @@ all p (x ∷ xs) = p x && all p xs
 unfoldable pub absent : ℕ → List ℕ → Bool
 absent x [] = true
 absent x (y ∷ ys) = not (eqb x y) && absent x ys
+
+-- ---- the same in plain mathematics
+-- low ≤ n ≤ high
+abbrev pub Between : ℕ → ℕ → ℕ → Type 0
+Between low high n = (low ≤ n) × (n ≤ high)
+
+-- P holds of each of a list
+abbrev pub Every : {A : Type 0} → (A → Type 0) → List A → Type 0
+Every P [] = Unit {0}
+Every P (x ∷ xs) = P x × Every P xs
+
+-- R holds of any two of a list, the earlier one first
+abbrev pub Pairwise : {A : Type 0} → (A → A → Type 0) → List A → Type 0
+Pairwise R [] = Unit {0}
+Pairwise R (x ∷ xs) = Every (R x) xs × Pairwise R xs

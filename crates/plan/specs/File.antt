@@ -2,7 +2,7 @@
 use Prim.Native.Nat.{ℕ, _+_, _*_}
 use mathlib.Core.List.{List, [], map, _++_, _∷_}
 use lib.ListN.{length, getD}
-use Rattle.words.specs.Words.{wordsOf}
+use Rattle.words.specs.Words.{wordsOf, partOf}
 use Rattle.lists.specs.Lists.{tab, part}
 
 -- word n of a list of words
@@ -33,6 +33,10 @@ lengthOf ws k = word ws (4 + k * 2)
 -- the body of entry k
 abbrev pub bodyOf : List ℕ → ℕ → List ℕ
 bodyOf ws k = part ws (startOf ws k) (lengthOf ws k)
+
+-- the bytes of task i's body, cut to the file where its entry reaches beyond
+abbrev pub bodyPart : List ℕ → ℕ → List ℕ
+bodyPart bytes i = partOf bytes (startOf (wordsOf bytes) (i + 1)) (lengthOf (wordsOf bytes) (i + 1))
 
 -- ---- "Task body: priority, period, deadline, execution time, offset, kind, initial state, ni, no, nt, na; then ni input
 -- signals, no output signals, nt transitions (from, input position, order, to), na actions (state, kind, a, b, c)."

@@ -124,14 +124,21 @@ abbrev pub priorityOf : Task → List ℕ
 priorityOf k = k .priority ∷ []
 
 -- ---- "Order: 1, 2, 3; then for each task in turn 4, 5, 6; then 7, 8"
+abbrev pub headRules : List ℕ → List Rule
+headRules bytes =
+    rule 1 0 (sizeRule bytes) ∷ rule 2 0 (headRule (wordsOf bytes)) ∷ rule 3 0 (contentsRule (wordsOf bytes)) ∷ []
+
+abbrev pub eachTask : List ℕ → List Rule
+eachTask bytes = taskRules (signalCount (wordsOf bytes)) 0 (taskBodies (wordsOf bytes))
+
+abbrev pub priorityRules : List ℕ → List Rule
+priorityRules bytes = clashRules 7 0 [] (map priorityOf (planOf bytes .tasks))
+
+abbrev pub outputRules : List ℕ → List Rule
+outputRules bytes = clashRules 8 0 [] (map (λ k. k .outputs) (planOf bytes .tasks))
+
 unfoldable pub planRules : List ℕ → List Rule
-planRules bytes =
-    let ws = wordsOf bytes in
-    let tasks = planOf bytes .tasks in
-    rule 1 0 (sizeRule bytes) ∷ rule 2 0 (headRule ws) ∷ rule 3 0 (contentsRule ws)
-    ∷ (taskRules (signalCount ws) 0 (taskBodies ws)
-      ++ clashRules 7 0 [] (map priorityOf tasks)
-      ++ clashRules 8 0 [] (map (λ k. k .outputs) tasks))
+planRules bytes = headRules bytes ++ (eachTask bytes ++ (priorityRules bytes ++ outputRules bytes))
 
 -- the number and place of a plan
 abbrev pub planVerdict : List ℕ → Verdict

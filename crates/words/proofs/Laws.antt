@@ -1,10 +1,11 @@
 -- How the list of words hangs together with the bytes.
-use Prim.Native.Nat.{ℕ, zero, suc, _+_, _*_, _-_, _/_, _<_, _≤_}
+use Prim.Native.Nat.{ℕ, zero, suc, _+_, _*_, _-_, _/_, _<_, _≤_, min}
 use mathlib.Core.Path.{_≡_, refl, sym, ap, _∙_}
 use mathlib.Core.List.{List, [], _∷_}
 use native.Mathlib.Omega.{arith}
-use lib.ListN.{length, getD, take, drop, List·getD-eq-default}
-use Rattle.words.specs.Words.{joined, wordsOf, wordAt, fourAt}
+use lib.ListN.{length, getD, take, drop, length-drop, List·getD-eq-default}
+use lib.Seq.{take-nil, drop-nil}
+use Rattle.words.specs.Words.{joined, wordsOf, wordAt, fourAt, partOf}
 
 -- as many words as there are whole fours of bytes
 pub words-length : (s : List ℕ) → length (wordsOf s) ≡ length s / 4
@@ -62,5 +63,43 @@ words-take (suc n) s = rw (four-more n) (go (λ r. words-take n r) s)
     go ih (a ∷ b ∷ c ∷ []) = refl
     go ih (a ∷ b ∷ c ∷ d ∷ rest) = ap (λ (l : List ℕ). joined a b c d ∷ l) (ih rest)
 
-pub words-part : (s : List ℕ) (start size : ℕ) → wordsOf (take (size * 4) (drop (start * 4) s)) ≡ take size (drop start (wordsOf s))
-words-part s start size = words-take size (drop (start * 4) s) ∙ ap (take size) (words-drop start s)
+words-of-part : (s : List ℕ) (start size : ℕ) → wordsOf (take (size * 4) (drop (start * 4) s)) ≡ take size (drop start (wordsOf s))
+words-of-part s start size = words-take size (drop (start * 4) s) ∙ ap (take size) (words-drop start s)
+
+-- cut to what there is, a part is the same
+cut-drop : {A : Type 0} (n : ℕ) (l : List A) → drop (min n (length l)) l ≡ drop n l
+cut-drop n [] = drop-nil (min n 0) ∙ sym (drop-nil n)
+cut-drop zero (x ∷ l) =
+    let e : min 0 (suc (length l)) ≡ 0 = omega arith in
+    rw e
+cut-drop (suc n) (x ∷ l) =
+    let e : min (suc n) (suc (length l)) ≡ suc (min n (length l)) = omega arith in
+    rw e (cut-drop n l)
+
+cut-take : {A : Type 0} (n : ℕ) (l : List A) → take (min n (length l)) l ≡ take n l
+cut-take n [] = take-nil (min n 0) ∙ sym (take-nil n)
+cut-take zero (x ∷ l) =
+    let e : min 0 (suc (length l)) ≡ 0 = omega arith in
+    rw e
+cut-take (suc n) (x ∷ l) =
+    let e : min (suc n) (suc (length l)) ≡ suc (min n (length l)) = omega arith in
+    rw (e, cut-take n l)
+
+-- the words of a part are that part of the words
+pub part-words : (s : List ℕ) (start size : ℕ) → wordsOf (partOf s start size) ≡ take size (drop start (wordsOf s))
+unfolding partOf
+part-words s start size =
+    let first = min start (length s / 4) in
+    words-of-part s first (min size (length s / 4 - first))
+    ∙ rw (← words-length s) (
+      ap (λ (k : ℕ). take (min size k) (drop (min start (length (wordsOf s))) (wordsOf s))) (sym (length-drop (min start (length (wordsOf s))) (wordsOf s)))
+      ∙ cut-take size (drop (min start (length (wordsOf s))) (wordsOf s))
+      ∙ ap (take size) (cut-drop start (wordsOf s)))
+
+-- a part that lies inside is not cut
+pub part-inside : (s : List ℕ) (start size : ℕ) → start + size ≤ length s / 4 → partOf s start size ≡ take (size * 4) (drop (start * 4) s)
+unfolding partOf
+part-inside s start size h =
+    let a : min start (length s / 4) ≡ start = omega arith in
+    let b : min size (length s / 4 - start) ≡ size = omega arith in
+    rw (a, b)

@@ -1,7 +1,7 @@
 -- Document 01, 'The plan file': words of 4 bytes, lowest byte first.
-use Prim.Native.Nat.{ℕ, _+_, _*_}
+use Prim.Native.Nat.{ℕ, _+_, _*_, _-_, _/_, min}
 use mathlib.Core.List.{List, [], _∷_}
-use lib.ListN.{getD}
+use lib.ListN.{length, getD, take, drop}
 
 -- four bytes as a number, lowest byte first
 abbrev pub joined : ℕ → ℕ → ℕ → ℕ → ℕ
@@ -22,3 +22,9 @@ wordAt bytes i = getD (wordsOf bytes) i 0
 -- the four bytes from k on as a number
 abbrev pub fourAt : List ℕ → ℕ → ℕ
 fourAt bytes k = joined (getD bytes k 0) (getD bytes (k + 1) 0) (getD bytes (k + 2) 0) (getD bytes (k + 3) 0)
+
+-- the part of the bytes that starts at a word and has a size in words, cut to the words that there are
+unfoldable pub partOf : List ℕ → ℕ → ℕ → List ℕ
+partOf bytes start size =
+    let first = min start (length bytes / 4) in
+    take (min size (length bytes / 4 - first) * 4) (drop (first * 4) bytes)

@@ -1,8 +1,8 @@
 // Words of 4 bytes, lowest byte first: the numbers that plan files and event lists are made of.
 ghost use mathlib.Core.Path.{_≡_};
-ghost use Prim.Native.Nat.{_+_, _≤_};
+ghost use Prim.Native.Nat.{_+_, _≤_, min};
 ghost use lib.ListN.{length};
-ghost use Rattle.words.specs.Words.{joined, fourAt, wordAt};
+ghost use Rattle.words.specs.Words.{joined, fourAt, wordAt, partOf};
 
 // Four bytes as one number. Sums and products instead of shifts: the compiler makes one load of them.
 fn join(a: u8, b: u8, c: u8, d: u8) -> u32
@@ -24,4 +24,20 @@ pub fn word(bytes: &[u8], i: usize) -> u32
     ensures { λ r. ⌜ r ≡ wordAt (now (bytes .entry)) i ⌝ }
 {
     if i < bytes.len() / 4 { four(bytes, i * 4) } else { 0 }
+}
+
+fn smaller(a: usize, b: usize) -> usize
+    ensures { λ r. ⌜ r ≡ min a b ⌝ }
+{
+    if a <= b { a } else { b }
+}
+
+// The part of the bytes that starts at a word and has a size in words, cut to the words that there are.
+pub fn part(bytes: &[u8], start: u32, size: u32) -> &[u8]
+    ensures { λ r. ⌜ now r ≡ partOf (now (bytes .entry)) start size ⌝ }
+{
+    let words = bytes.len() / 4;
+    let first = smaller(start as usize, words);
+    let count = smaller(size as usize, words - first);
+    &bytes[first * 4..(first + count) * 4]
 }
