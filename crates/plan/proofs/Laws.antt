@@ -1,14 +1,25 @@
 -- What the lists of rules are made of.
 use Prim.Native.Nat.{ℕ, _+_, _<_}
-use mathlib.Core.Path.{_≡_, refl}
+use mathlib.Core.Path.{_≡_, refl, _∙_}
 use mathlib.Core.Bool.{Bool, true, false, _&&_, false≢true}
 use mathlib.Core.List.{List, [], _∷_, _++_, map}
 use native.Mathlib.Omega.{arith}
+use lib.ListN.{length, length-map}
+use Rattle.lists.proofs.Laws.{length-tab}
 use Rattle.words.specs.Words.{wordsOf}
 use Rattle.answers.specs.Answers.{Rule, allHold}
 use Rattle.answers.proofs.Laws.{Numbered}
-use Rattle.plan.specs.File.{taskOf, taskBodies, planOf}
+use Rattle.plan.specs.File.{word, startOf, signalCount, taskCount, taskOf, taskBodies, planOf}
 use Rattle.plan.specs.Rules.{shapeRule, timingRule, bodyRule, oneTask, taskRules, afterAll, clashRules, priorityOf, headRules, eachTask, priorityRules, outputRules, planRules}
+
+-- ---- S and T are the lengths of the plan's lists
+pub signals-length : (bytes : List ℕ) → length (planOf bytes .signals) ≡ signalCount (wordsOf bytes)
+unfolding planOf
+signals-length bytes = length-tab (λ j. word (wordsOf bytes) (startOf (wordsOf bytes) 0 + j)) 0 (signalCount (wordsOf bytes))
+
+pub tasks-length : (bytes : List ℕ) → length (planOf bytes .tasks) ≡ taskCount (wordsOf bytes)
+unfolding planOf
+tasks-length bytes = length-map (taskBodies (wordsOf bytes)) taskOf ∙ length-tab _ 0 (taskCount (wordsOf bytes))
 
 -- ---- no rule has number 0
 pub numbered-append : (xs ys : List Rule) → Numbered xs → Numbered ys → Numbered (xs ++ ys)

@@ -21,7 +21,7 @@ use Rattle.plan.proofs.Laws.{tasks-numbered, clash-numbered, three-hold}
 use Rattle.plan_check.specs.Clash.{newTo, markAll, clashFrom, clashNumber, numbersOf, clashOf}
 
 -- ---- marks stand for a list of numbers
-abbrev Agree : ℕ → List ℕ → Type 0
+abbrev pub Agree : ℕ → List ℕ → Type 0
 Agree marks seenList = (k : ℕ) → k < 64 → seen marks k ≡ not (absent k seenList)
 
 eqb-sym : (a b : ℕ) → eqb a b ≡ eqb b a
@@ -47,11 +47,11 @@ agree-mark marks l x hx a k hk =
     seen-mark marks x k hx hk ∙ ap₂ (λ (s t : Bool). s || t) (a k hk) (eqb-sym x k) ∙ either (absent k l) (eqb k x)
 
 -- every number of a list is below 64
-abbrev Below : List ℕ → Type 0
+abbrev pub Below : List ℕ → Type 0
 Below xs = all (λ x. ltb x 64) xs ≡ true
 
 -- one task's numbers
-same-new : (marks : ℕ) (l xs : List ℕ) → Agree marks l → Below xs → (newTo marks xs ≡ allNew l xs) × Agree (markAll marks xs) (afterAll l xs)
+pub same-new : (marks : ℕ) (l xs : List ℕ) → Agree marks l → Below xs → (newTo marks xs ≡ allNew l xs) × Agree (markAll marks xs) (afterAll l xs)
 unfolding newTo markAll allNew afterAll all
 same-new marks l [] a b = (refl, a)
 same-new marks l (x ∷ xs) a b =
@@ -59,7 +59,7 @@ same-new marks l (x ∷ xs) a b =
     let r = same-new (mark marks x) (x ∷ l) xs (agree-mark marks l x h a) (and-right (ltb x 64) (all (λ y. ltb y 64) xs) b) in
     (ap₂ (λ (s t : Bool). s && t) (ap not (a x h) ∙ not-not (absent x l)) (r .0), r .1)
 
-abbrev EachBelow : List (List ℕ) → Type 0
+abbrev pub EachBelow : List (List ℕ) → Type 0
 EachBelow [] = Unit {0}
 EachBelow (xs ∷ rest) = Below xs × EachBelow rest
 
@@ -98,7 +98,7 @@ numbers-below : (outputs : Bool) (s i : ℕ) (ws : List ℕ) → s ≤ 64 → al
 numbers-below true s i ws h e = outputs-below s (taskOf ws) h (three-hold s i ws e .body)
 numbers-below false s i ws h e = priority-below (taskOf ws) (three-hold s i ws e .timing)
 
-tasks-below : (outputs : Bool) (s i : ℕ) (bodies : List (List ℕ)) → s ≤ 64 → allHold (taskRules s i bodies) ≡ true
+pub tasks-below : (outputs : Bool) (s i : ℕ) (bodies : List (List ℕ)) → s ≤ 64 → allHold (taskRules s i bodies) ≡ true
     → EachBelow (map (λ b. numbersOf outputs (taskOf b)) bodies)
 unfolding taskRules
 tasks-below outputs s i [] h e = tt

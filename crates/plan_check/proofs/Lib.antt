@@ -1,2 +1,3 @@
 pub mod Laws
 pub mod Clash
+pub mod Written

@@ -128,7 +128,8 @@ fn mark_task(part: &[u8], outputs: bool, before: u64) -> Marked
     }
 }
 
-fn mark_one(bytes: &[u8], task: u32, outputs: bool, before: u64) -> Marked
+// The same of task i of a file.
+pub fn mark_one(bytes: &[u8], task: u32, outputs: bool, before: u64) -> Marked
     ensures { λ r. ⌜ r ≡ markedBy (newTo before (numbersOf outputs (taskOf (bodyOf (wordsOf (now (bytes .entry))) (task + 1))))) (markAll before (numbersOf outputs (taskOf (bodyOf (wordsOf (now (bytes .entry))) (task + 1))))) ⌝ }
 {
     mark_task(task_part(bytes, task), outputs, before)

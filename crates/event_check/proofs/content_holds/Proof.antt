@@ -1,0 +1,24 @@
+use borrow.Author.Needs.{needs}
+use Rattle.event_check.proofs.content_holds.Statement.{statement}
+use Rattle.event_check.proofs.content_holds.Tie as tie
+
+returns : tie.Need-returns
+returns c =
+    rw (c .is-marked .ensures, c .before .period-of .ensures, c .before .before .before .before .before .before .word .ensures, c .before .before .before .before .before .word2 .ensures, c .before .before .before .before .word3 .ensures, c .before .before .before .word4 .ensures, c .before .before .word5 .ensures)
+
+pub content-holds-spec : {M : Type 1} → statement M
+content-holds-spec =
+    tie.close
+    (tie.spec
+    (λ c. search needs)
+    (λ c. search needs)
+    (λ c κs. search needs)
+    (λ c. search needs)
+    (λ c κs. search needs)
+    (λ c. search needs)
+    (λ c κs. search needs)
+    (λ c κs. search needs)
+    (λ c κs. search needs)
+    (λ c κs. search needs)
+    (λ c κs. search needs)
+    returns)
