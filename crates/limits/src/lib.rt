@@ -22,3 +22,5 @@ pub const LAST_INSTANT: u32 = 999_999;
 pub const PLAN_BYTES: usize = 20_564;
 
 pub const EVENT_BYTES: usize = 16_384;
+
+pub const TOP_VALUE: u64 = 4_294_967_295;

@@ -1,0 +1,233 @@
+// Document 01, 'The body': what a task's body leaves of its machine state and held outputs.
+ghost use mathlib.Core.Path.{_≡_};
+ghost use Prim.Native.Nat.{_<_, _^_};
+ghost use mathlib.Core.Bool.{cond};
+ghost use lib.ListN.{getD, set};
+ghost use Rattle.words.specs.Words.{wordsOf};
+ghost use Rattle.plan.specs.File.{taskOf, transitionsAt, transitionAt, actionAt};
+ghost use Rattle.body.specs.Body.{sooner, look, fires, after, move, doAction, perform, runActions, runIf, leaves, supervise, control, body};
+ghost use Rattle.body.specs.Steps.{inHand};
+
+const PORTS: usize = limits::PORTS as usize;
+
+// The words of a body that are read by number.
+const KIND: usize = 5;
+
+const INPUT_COUNT: usize = 7;
+
+const OUTPUT_COUNT: usize = 8;
+
+const TRANSITION_COUNT: usize = 9;
+
+const ACTION_COUNT: usize = 10;
+
+const INPUTS_AT: usize = 11;
+
+// What a body leaves.
+pub struct Result {
+    pub machine: u32,
+    pub held: [u32; PORTS],
+}
+
+// Value i, and 0 where there is none: total, so that no position in a damaged file can stray.
+fn get(values: &[u32], i: usize) -> u32
+    ensures { λ r. ⌜ r ≡ getD (now (values .entry)) i 0 ⌝ }
+{
+    if i < values.len() { values[i] } else { 0 }
+}
+
+// x at place i; nothing where there is no such place.
+fn put(values: &mut [u32], i: usize, x: u32)
+    ensures { λ _. ⌜ now (values .exit) ≡ set (now (values .entry)) i x ⌝ }
+{
+    if i < values.len() {
+        values[i] = x;
+    }
+}
+
+// The word at which the transitions start. The bounds are what its callers need to add to it safely.
+fn transitions_at(part: &[u8]) -> usize
+    ensures { λ r. ⌜ r ≡ transitionsAt (wordsOf (now (part .entry))) ⌝ }
+    ensures small { λ r. ⌜ (0 < r) × (r < 2 ^ 34) ⌝ }
+{
+    INPUTS_AT + words::word(part, INPUT_COUNT) as usize + words::word(part, OUTPUT_COUNT) as usize
+}
+
+// Transitions are held by the word at which they start, and 0 stands for none: one number, where an enum would be copied
+// whole at each turn of the loop. No word number that counts of 32 bits can give comes near 2 ^ 40, and none below it can wrap.
+
+// The one with the smaller order; at equal orders the earlier.
+fn sooner_of(part: &[u8], at: usize, best: usize) -> usize
+    requires { ⌜ (0 < at) × (at < 2 ^ 40) × (best < 2 ^ 40) ⌝ }
+    ensures { λ r. ⌜ inHand (wordsOf (now (part .entry))) r ≡ sooner (transitionAt (wordsOf (now (part .entry))) at) (inHand (wordsOf (now (part .entry))) best) ⌝ }
+    ensures small { λ r. ⌜ r < 2 ^ 40 ⌝ }
+{
+    if best == 0 {
+        return at;
+    }
+    if words::word(part, at + 2) < words::word(part, best + 2) {
+        at
+    } else {
+        best
+    }
+}
+
+// One more transition: read no further than its 'from' where that is another state.
+fn look_at(part: &[u8], at: usize, latched: &[u32], machine: u32, best: usize) -> usize
+    requires { ⌜ (0 < at) × (at < 2 ^ 40) × (best < 2 ^ 40) ⌝ }
+    ensures { λ r. ⌜ inHand (wordsOf (now (part .entry))) r ≡ look (now (latched .entry)) machine (transitionAt (wordsOf (now (part .entry))) at) (inHand (wordsOf (now (part .entry))) best) ⌝ }
+    ensures small { λ r. ⌜ r < 2 ^ 40 ⌝ }
+{
+    if words::word(part, at) != machine {
+        return best;
+    }
+    if get(latched, words::word(part, at + 1) as usize) == 0 {
+        return best;
+    }
+    sooner_of(part, at, best)
+}
+
+// The transition that is taken from a machine state.
+fn choose(part: &[u8], latched: &[u32], machine: u32) -> usize
+    ensures { λ r. ⌜ inHand (wordsOf (now (part .entry))) r ≡ fires (now (latched .entry)) machine (taskOf (wordsOf (now (part .entry))) .transitions) ⌝ }
+    ensures small { λ r. ⌜ r < 2 ^ 40 ⌝ }
+{
+    let first = transitions_at(part);
+    let count = words::word(part, TRANSITION_COUNT);
+    let mut best: usize = 0;
+    let mut j: u32 = 0;
+    while j < count {
+        best = look_at(part, first + j as usize * 4, latched, machine, best);
+        j += 1;
+    }
+    best
+}
+
+// The state after it.
+fn next_state(part: &[u8], machine: u32, taken: usize) -> u32
+    requires { ⌜ taken < 2 ^ 40 ⌝ }
+    ensures { λ r. ⌜ r ≡ after machine (inHand (wordsOf (now (part .entry))) taken) ⌝ }
+{
+    if taken == 0 {
+        machine
+    } else {
+        words::word(part, taken + 3)
+    }
+}
+
+// 'Updated' as a value.
+fn bit(updated: bool) -> u32
+    ensures { λ r. ⌜ r ≡ cond updated 1 0 ⌝ }
+{
+    if updated { 1 } else { 0 }
+}
+
+// Both questions are asked before anything is taken from a.
+fn transfer(held: &mut [u32], a: usize, b: usize, m: u32)
+    ensures { λ _. ⌜ now (held .exit) ≡ move (now (held .entry)) a b m ⌝ }
+{
+    let x = get(held, a);
+    let y = get(held, b);
+    if (m <= x) & (y as u64 + m as u64 <= limits::TOP_VALUE) {
+        put(held, a, x - m);
+        put(held, b, y + m);
+    }
+}
+
+// The action that starts at a word.
+fn act(part: &[u8], at: usize, latched: &[u32], held: &mut [u32])
+    requires { ⌜ at < 2 ^ 40 ⌝ }
+    ensures { λ _. ⌜ now (held .exit) ≡ doAction (now (latched .entry)) (actionAt (wordsOf (now (part .entry))) at) (now (held .entry)) ⌝ }
+{
+    let kind = words::word(part, at + 1);
+    let a = words::word(part, at + 2) as usize;
+    let c = words::word(part, at + 4);
+    let m = get(latched, c as usize);
+    match kind {
+        1 => put(held, a, c),
+        2 => put(held, a, m),
+        3 => {
+            let sum = std::num::wrapping_add_u32(get(held, a), m);
+            put(held, a, sum)
+        }
+        _ => transfer(held, a, words::word(part, at + 3) as usize, m),
+    }
+}
+
+// One more action: read no further than its state where that is another one.
+fn perform_at(part: &[u8], at: usize, latched: &[u32], state: u32, held: &mut [u32])
+    requires { ⌜ at < 2 ^ 40 ⌝ }
+    ensures { λ _. ⌜ now (held .exit) ≡ perform (now (latched .entry)) state (actionAt (wordsOf (now (part .entry))) at) (now (held .entry)) ⌝ }
+{
+    if words::word(part, at) == state {
+        act(part, at, latched, held);
+    }
+}
+
+// The state's actions in file order.
+fn run_actions(part: &[u8], latched: &[u32], state: u32, held: &mut [u32])
+    ensures { λ _. ⌜ now (held .exit) ≡ runActions (now (latched .entry)) state (taskOf (wordsOf (now (part .entry))) .actions) (now (held .entry)) ⌝ }
+{
+    let first = transitions_at(part) + words::word(part, TRANSITION_COUNT) as usize * 4;
+    let count = words::word(part, ACTION_COUNT);
+    let mut j: u32 = 0;
+    while j < count {
+        perform_at(part, first + j as usize * 5, latched, state, held);
+        j += 1;
+    }
+}
+
+// They run only if updated.
+fn run_if(updated: bool, part: &[u8], latched: &[u32], state: u32, held: &mut [u32])
+    ensures { λ _. ⌜ now (held .exit) ≡ runIf updated (now (latched .entry)) state (taskOf (wordsOf (now (part .entry))) .actions) (now (held .entry)) ⌝ }
+{
+    if updated {
+        run_actions(part, latched, state, held);
+    }
+}
+
+// What a supervisor's body leaves of the lent outputs, and the machine state that it returns.
+fn supervisor(part: &[u8], latched: &[u32], machine: u32, held: &mut [u32]) -> u32
+    ensures { λ r. ⌜ leaves r (now (held .exit)) ≡ supervise (taskOf (wordsOf (now (part .entry)))) (now (latched .entry)) machine (now (held .entry)) ⌝ }
+{
+    let taken = choose(part, latched, machine);
+    let next = next_state(part, machine, taken);
+    let updated = next != machine;
+    put(held, 0, next);
+    put(held, 1, bit(updated));
+    run_if(updated, part, latched, next, held);
+    next
+}
+
+// The same of a controller, which keeps its machine state.
+fn controller(part: &[u8], latched: &[u32], machine: u32, held: &mut [u32]) -> u32
+    ensures { λ r. ⌜ leaves r (now (held .exit)) ≡ control (taskOf (wordsOf (now (part .entry)))) (now (latched .entry)) machine (now (held .entry)) ⌝ }
+{
+    let state = get(latched, 0);
+    let updated = get(latched, 1) != 0;
+    run_if(updated, part, latched, state, held);
+    machine
+}
+
+// A task's body, on lent outputs: for any bytes and any values, so that nothing need be known of the plan where it is called.
+pub fn run_lent(part: &[u8], latched: &[u32], machine: u32, held: &mut [u32]) -> u32
+    ensures { λ r. ⌜ leaves r (now (held .exit)) ≡ body (taskOf (wordsOf (now (part .entry)))) (now (latched .entry)) machine (now (held .entry)) ⌝ }
+{
+    if words::word(part, KIND) == 1 {
+        supervisor(part, latched, machine, held)
+    } else {
+        controller(part, latched, machine, held)
+    }
+}
+
+// The same on arrays of its own.
+pub fn run_body(part: &[u8], latched: [u32; PORTS], machine: u32, held: [u32; PORTS]) -> Result
+    ensures { λ r. ⌜ r ≡ body (taskOf (wordsOf (now (part .entry)))) latched machine held ⌝ }
+{
+    let mut h = held;
+    let next = run_lent(part, &latched, machine, &mut h);
+    Result {
+        machine: next,
+        held: h,
+    }
+}
