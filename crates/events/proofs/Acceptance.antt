@@ -1,10 +1,10 @@
 -- Document 01, 'The event list' and 'Numbers returned', proved of the definitions: the number is 0 exactly when a person who
 -- reads the paper would accept, and a refusal names the first broken rule in the paper's order.
 use Prim.Native.Nat.{ℕ, zero, suc, _+_, _%_, _<_, _≤_}
-use mathlib.Core.Path.{_≡_, refl, sym, ap, _∙_}
+use mathlib.Core.Path.{_≡_, refl, sym, ap}
 use mathlib.Core.Bool.{Bool, true, false, not, _&&_, _||_, false≢true}
 use mathlib.Core.List.{List, [], _∷_, _++_}
-use mathlib.Core.Logic.{_⊎_, inl, inr, _↔_}
+use mathlib.Core.Logic.{_⊎_, inl, inr, _↔_, Iff·symm, Iff·trans, Iff·and}
 use native.Mathlib.Omega.{arith}
 use native.Mathlib.Numerals.{add-one}
 use lib.ListN.{length, getD}
@@ -13,10 +13,12 @@ use borrow.Author.Tests.{ltb-true, leb-true, eqb-true, eqb-false, not-true, lt-l
 use Rattle.limits.specs.Limits.{maxEventBytes, lastInstant}
 use Rattle.lists.specs.Lists.{absent}
 use Rattle.lists.proofs.Laws.{and-left, and-right, and-both, and-assoc}
-use Rattle.answers.specs.Answers.{Rule, Verdict, allHold}
-use Rattle.answers.proofs.Laws.{First, refusal-first, zero-all, all-zero, all-append}
+use Rattle.answers.specs.Answers.{allHold}
+use Rattle.answers.proofs.Decides.{Decides, decides, hold-append}
 use Rattle.plan.specs.File.{Task, noTask, Plan, planOf, allOutputs}
 use Rattle.plan.specs.Rules.{planRules}
+use Rattle.plan.specs.Accepted.{Accepted}
+use Rattle.plan.proofs.Acceptance.{rules-iff}
 use Rattle.events.specs.Events.{Event, eventCount, eventsOf, releaseEventRule, setEventRule, contentRule, eventRules, eventListRules, checkRules, eventsVerdict}
 use Rattle.events.specs.Accepted.{Releases, Sets, recordAt, AcceptedEvents}
 use Rattle.plan.proofs.Laws.{signals-length, tasks-length}
@@ -196,35 +198,16 @@ module _ (planBytes eventBytes : List ℕ) where
   unfolding allHold
   accepted-list a = rw (eq-eqb _ _ (a .whole), le-leb _ _ (a .size)) (each-hold planBytes 0 0 (eventsOf eventBytes) (accepted-each a))
 
-  -- number 0 is given exactly when the plan is accepted and the event list is, as a person would say it
-  pub zero-exactly : (eventsVerdict planBytes eventBytes .number ≡ 0) ↔ ((allHold (planRules planBytes) ≡ true) × AcceptedEvents planBytes eventBytes)
-  zero-exactly = (there, back)
-    where
-      both : allHold (checkRules planBytes eventBytes) ≡ (allHold (planRules planBytes) && allHold (eventListRules planBytes eventBytes))
-      both = all-append (planRules planBytes) (eventListRules planBytes eventBytes)
-
-      there : eventsVerdict planBytes eventBytes .number ≡ 0 → (allHold (planRules planBytes) ≡ true) × AcceptedEvents planBytes eventBytes
-      there zero′ =
-          let all′ = sym both ∙ zero-all (checkRules planBytes eventBytes) (numbered-check planBytes eventBytes) zero′ in
-          (and-left _ _ all′, list-accepted (and-right (allHold (planRules planBytes)) _ all′))
-
-      back : (allHold (planRules planBytes) ≡ true) × AcceptedEvents planBytes eventBytes → eventsVerdict planBytes eventBytes .number ≡ 0
-      back (p, a) = ap (λ (v : Verdict). v .number) (all-zero (checkRules planBytes eventBytes) (both ∙ and-both _ _ p (accepted-list a)))
-
-  -- so for an accepted plan it is given exactly when the event list is accepted
-  pub accepted-exactly : allHold (planRules planBytes) ≡ true → AcceptedEvents planBytes eventBytes ↔ (eventsVerdict planBytes eventBytes .number ≡ 0)
-  accepted-exactly p = (λ a. zero-exactly .1 (p, a), λ z. zero-exactly .0 z .1)
-
 -- ---- number and place: 0 exactly when every rule holds; else those of a broken rule before which, in the paper's order
 -- "1, 2, 3; then for each task in turn 4, 5, 6; then 7, 8; 9; for each event in turn 10, 11", every rule holds
-pub record Decides (rs : List Rule) (v : Verdict) : Type 0 where
-  pub accepts : (v .number ≡ 0) ↔ (allHold rs ≡ true)
-  pub refuses : (v .number ≡ 0 → ⊥) → First rs v
-
 pub verdict-decides : (planBytes eventBytes : List ℕ) → Decides (checkRules planBytes eventBytes) (eventsVerdict planBytes eventBytes)
-verdict-decides planBytes eventBytes =
-    let rs = checkRules planBytes eventBytes in
-    record {
-      accepts = (zero-all rs (numbered-check planBytes eventBytes), λ h. ap (λ (v : Verdict). v .number) (all-zero rs h));
-      refuses = refusal-first rs;
-    }
+verdict-decides planBytes eventBytes = decides (checkRules planBytes eventBytes) (numbered-check planBytes eventBytes)
+
+-- number 0 is given exactly when the plan is accepted and the event list is, as a person would say it
+pub accepted-exactly : (planBytes eventBytes : List ℕ)
+    → (Accepted planBytes × AcceptedEvents planBytes eventBytes) ↔ (eventsVerdict planBytes eventBytes .number ≡ 0)
+accepted-exactly planBytes eventBytes =
+    let list-iff : (allHold (eventListRules planBytes eventBytes) ≡ true) ↔ AcceptedEvents planBytes eventBytes
+        = (list-accepted planBytes eventBytes, accepted-list planBytes eventBytes) in
+    let both = hold-append (planRules planBytes) (eventListRules planBytes eventBytes) in
+    Iff·symm (Iff·trans (verdict-decides planBytes eventBytes .accepts) (Iff·trans both (Iff·and (rules-iff planBytes) list-iff)))

@@ -1,105 +1,65 @@
+use Prim.Native.Nat.{_+_, _*_, _-_, _≤_, _/_}
+use native.Mathlib.Nat.{zero-add}
+use native.Mathlib.Omega.{arith}
+use mathlib.Core.Path.{_≡_, refl, sym, _∙_}
+use mathlib.Core.Bool.{true, false}
+use lib.ListN.{length, take, drop}
 use borrow.Author.Needs.{needs}
+use borrow.Author.Tests.{not-true, not-false, eqb-true}
+use Rattle.words.specs.Words.{wordsOf}
+use Rattle.plan.specs.File.{startOf, lengthOf}
+use Rattle.plan.proofs.Facts.{accepted, task-bytes}
+use Rattle.plan_check.proofs.Laws.{asked}
+use Rattle.plan_body.proofs.Laws.{found}
 use Rattle.plan_body.proofs.task_body.Statement.{statement}
 use Rattle.plan_body.proofs.task_body.Tie as tie
-use Rattle.plan_body.proofs.task_body.Reads as reads
-use Rattle.plan_body.proofs.task_body.Lts as lts
-use Rattle.answers.proofs.accepted.Reads as accepted-reads
-use Rattle.plan_body.proofs.body_answer.Reads as body-answer-reads
-use Rattle.words.proofs.word.Reads as word-reads
-
-body-answer-requires : tie.Need-body-answer-requires
-body-answer-requires c κs = search needs
-
-accepted-requires : tie.Need-accepted-requires
-accepted-requires c κs = search needs
-
-sub-result : tie.Need-sub-result
-sub-result c = search needs
-
-part-result-start : tie.Need-part-result-start
-part-result-start c = search needs
-
-part-result-end : tie.Need-part-result-end
-part-result-end c = search needs
 
 returns : tie.Need-returns
-returns c = ?
+returns c =
+    rw (asked false (c .before .before .accepted .result) _ _ (c .before .before .accepted .ensures) (not-true (c .before .before .accepted .result) (c .before .if1 .taken)) (c .before .before .before .body-answer .ensures))
+    (record { stands = refl; holds = refl })
 
-add-word : tie.Need-add-word
-add-word c = search needs
-
-mul-word : tie.Need-mul-word
-mul-word c = search needs
-
-add-word-2 : tie.Need-add-word-2
-add-word-2 c = search needs
-
-word-requires : tie.Need-word-requires
-word-requires c κs = search needs
-
-cast-start : tie.Need-cast-start
-cast-start c = search needs
-
-mul-start : tie.Need-mul-start
-mul-start c = search needs
-
-add-word-3 : tie.Need-add-word-3
-add-word-3 c = search needs
-
-mul-word-2 : tie.Need-mul-word-2
-mul-word-2 c = search needs
-
-add-word-4 : tie.Need-add-word-4
-add-word-4 c = search needs
-
-word-requires-2 : tie.Need-word-requires-2
-word-requires-2 c κs = search needs
-
-cast-size : tie.Need-cast-size
-cast-size c = search needs
-
-mul-size : tie.Need-mul-size
-mul-size c = search needs
-
-add-result : tie.Need-add-result
-add-result c = search needs
-
-sub-result-2 : tie.Need-sub-result-2
-sub-result-2 c = search needs
-
-part-result-start-2 : tie.Need-part-result-start-2
-part-result-start-2 c = search needs
+-- the body lies inside the file
+inside : (c : tie.After-word2) → (c .before .word .result + c .word2 .result) ≤ length (c .before .before .before .before .before .before .args .plan .now) / 4
+inside c =
+    let seen = found (c .before .before .before .before .before .before .args .plan .now) (c .before .before .before .before .before .before .args .task)
+      (eqb-true _ 0 (asked true (c .before .before .before .accepted .result) _ _ (c .before .before .before .accepted .ensures) (not-false (c .before .before .before .accepted .result) (c .before .before .if1 .left)) (c .before .before .before .before .body-answer .ensures))) in
+    rw (c .before .word .ensures, c .word2 .ensures) (task-bytes (c .before .before .before .before .before .before .args .plan .now) (accepted (c .before .before .before .before .before .before .args .plan .now) (seen .accepted)) (c .before .before .before .before .before .before .args .task) (seen .below))
 
 part-result-end-2 : tie.Need-part-result-end-2
-part-result-end-2 c = ?
+part-result-end-2 c = omega (arith, inside c)
 
 returns-2 : tie.Need-returns-2
-returns-2 c = ?
+returns-2 c =
+    let size : c .before .before .word .result * 4 + c .before .word2 .result * 4 - c .before .before .word .result * 4 ≡ c .before .word2 .result * 4 = omega arith in
+    rw (asked true (c .before .before .before .before .accepted .result) _ _ (c .before .before .before .before .accepted .ensures) (not-false (c .before .before .before .before .accepted .result) (c .before .before .before .if1 .left)) (c .before .before .before .before .before .body-answer .ensures),
+      ← c .before .before .word .ensures, ← c .before .word2 .ensures)
+    (record { stands = refl; holds = rw size })
 
 pub task-body-spec : {M : Type 1} → statement M
 task-body-spec =
     tie.close
     (tie.spec
-    body-answer-requires
-    accepted-requires
-    sub-result
-    part-result-start
-    part-result-end
+    (λ c κs. search needs)
+    (λ c κs. search needs)
+    (λ c. search needs)
+    (λ c. search needs)
+    (λ c. search needs)
     returns
-    add-word
-    mul-word
-    add-word-2
-    word-requires
-    cast-start
-    mul-start
-    add-word-3
-    mul-word-2
-    add-word-4
-    word-requires-2
-    cast-size
-    mul-size
-    add-result
-    sub-result-2
-    part-result-start-2
+    (λ c. search needs)
+    (λ c. search needs)
+    (λ c. search needs)
+    (λ c κs. search needs)
+    (λ c. search needs)
+    (λ c. search needs)
+    (λ c. search needs)
+    (λ c. search needs)
+    (λ c. search needs)
+    (λ c κs. search needs)
+    (λ c. search needs)
+    (λ c. search needs)
+    (λ c. search needs)
+    (λ c. search needs)
+    (λ c. search needs)
     part-result-end-2
     returns-2)

@@ -1,0 +1,29 @@
+//! `vectors LAUNCH FOLDER ENTRY..`: runs the built program `cases` on the cases of FOLDER/cases.in whose entry is named, and
+//! compares each line with FOLDER/cases.out. LAUNCH is the script that starts a built program.
+use driver::{print_of, split, Tally};
+use std::fs;
+
+fn main() {
+    let args: Vec<String> = std::env::args().collect();
+    let (launch, folder) = (&args[1], &args[2]);
+    let entries: Vec<u32> = args[3..].iter().map(|a| a.parse().expect("an entry's number")).collect();
+    let stream = fs::read(format!("{folder}/cases.in")).expect("cases.in");
+    let expected = fs::read_to_string(format!("{folder}/cases.out")).expect("cases.out");
+    let mut input = vec![];
+    let mut wanted = vec![];
+    for (number, (case, line)) in split(&stream).iter().zip(expected.lines()).enumerate() {
+        if entries.contains(&case.entry) {
+            input.extend_from_slice(case.bytes);
+            wanted.push((number, case.entry, line));
+        }
+    }
+    let printed = String::from_utf8(print_of(launch, "cases", &input)).expect("text");
+    let mut lines = printed.lines();
+    let mut tally = Tally::default();
+    for (number, entry, line) in wanted {
+        let got = lines.next().unwrap_or("nothing");
+        tally.record(&format!("case {number}, entry {entry}"), got == line, || format!("printed {got}, expected {line}"));
+    }
+    tally.record("after the last case", lines.next().is_none(), || "more lines than cases".to_string());
+    tally.close();
+}
