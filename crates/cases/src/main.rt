@@ -13,8 +13,6 @@ const PLAN_BYTES: usize = 41_752;
 
 const EVENT_BYTES: usize = 16_400;
 
-const STATE_WORDS: u32 = 386;
-
 const STATE_BYTES: usize = 1_544;
 
 // A number and what stands before it.
@@ -89,6 +87,20 @@ fn answer_case(entry: u32, argument: u32, plan: &[u8], events: &[u8]) -> bool {
     }
 }
 
+// Reads so many bytes to a buffer's start; false where they are more than it holds, or the input ends before.
+fn read_part(buffer: &mut [u8], size: usize) -> bool {
+    if buffer.len() < size {
+        return false;
+    }
+    let got = io::read_full(STDIN_FILENO, &mut buffer[..size]);
+    got == size
+}
+
+// The start of a buffer.
+fn start_of(buffer: &[u8], size: usize) -> &[u8] {
+    if size <= buffer.len() { &buffer[..size] } else { &buffer[..0] }
+}
+
 // One case; whether the next may follow.
 fn one_case() -> bool {
     let mut head = [0u8; 24];
@@ -96,23 +108,25 @@ fn one_case() -> bool {
     if got == 0 {
         return false;
     }
-    let plan_bytes = word(&head, 3) as usize;
-    let event_bytes = word(&head, 4) as usize;
-    let state_words = word(&head, 5);
-    if (got < 24) | (TRACE_WORDS < word(&head, 2)) | (PLAN_BYTES < plan_bytes) | (EVENT_BYTES < event_bytes) | (STATE_WORDS < state_words) {
+    if (got < 24) | (TRACE_WORDS < word(&head, 2)) {
         return bad_case();
     }
-    let state_bytes = state_words as usize * 4;
+    let plan_bytes = word(&head, 3) as usize;
+    let event_bytes = word(&head, 4) as usize;
+    let state_bytes = word(&head, 5) as usize * 4;
     let mut plan = [0u8; PLAN_BYTES];
     let mut events = [0u8; EVENT_BYTES];
     let mut state = [0u8; STATE_BYTES];
-    let plan_got = io::read_full(STDIN_FILENO, &mut plan[..plan_bytes]);
-    let events_got = io::read_full(STDIN_FILENO, &mut events[..event_bytes]);
-    let state_got = io::read_full(STDIN_FILENO, &mut state[..state_bytes]);
-    if (plan_got < plan_bytes) | (events_got < event_bytes) | (state_got < state_bytes) {
+    if !read_part(&mut plan, plan_bytes) {
         return bad_case();
     }
-    answer_case(word(&head, 0), word(&head, 1), &plan[..plan_bytes], &events[..event_bytes])
+    if !read_part(&mut events, event_bytes) {
+        return bad_case();
+    }
+    if !read_part(&mut state, state_bytes) {
+        return bad_case();
+    }
+    answer_case(word(&head, 0), word(&head, 1), start_of(&plan, plan_bytes), start_of(&events, event_bytes))
 }
 
 // A proved loop has to end, and nothing says that a stream does: the turns are counted down from a number that no run uses up.
