@@ -1,0 +1,54 @@
+-- Document 01, 'Trace and printing'.
+use Prim.Native.Nat.{ℕ, _+_, _*_}
+use mathlib.Core.Bool.{cond}
+use mathlib.Core.List.{List, [], _∷_, _++_}
+use lib.ListN.{length, set, drop}
+use lib.Dec.{leb}
+use Rattle.trace.specs.declared.Entry.{Entry}
+
+-- "Kinds: 1 release, 2 write (one for each output, in position order), 3 deadline missed, 4 due while ACTIVE, 5 event ignored (one each)."
+abbrev pub releaseKind : ℕ
+releaseKind = 1
+
+abbrev pub writeKind : ℕ
+writeKind = 2
+
+abbrev pub missKind : ℕ
+missKind = 3
+
+abbrev pub overrunKind : ℕ
+overrunKind = 4
+
+abbrev pub ignoredKind : ℕ
+ignoredKind = 5
+
+-- "Signal and value are 0 except in 2."
+abbrev pub entry : ℕ → ℕ → ℕ → Entry
+entry t kind i = record { instant = t; kind = kind; task = i; signal = 0; value = 0 }
+
+-- a write record
+abbrev pub writeEntry : ℕ → ℕ → ℕ → ℕ → Entry
+writeEntry t i signal value = record { instant = t; kind = writeKind; task = i; signal = signal; value = value }
+
+-- "Records of five words: instant, kind, task, signal, value"
+unfoldable pub lines : List Entry → List ℕ
+lines [] = []
+lines (e ∷ es) = e .instant ∷ e .kind ∷ e .task ∷ e .signal ∷ e .value ∷ lines es
+
+-- ".. from the trace's start at each call"; "words beyond the records stay"
+abbrev pub traceAfter : List Entry → List ℕ → List ℕ
+traceAfter es trace = lines es ++ drop (5 * length es) trace
+
+-- ---- one record after the other, as the steps come
+-- five words from word `at` on
+abbrev pub store : List ℕ → ℕ → Entry → List ℕ
+store l at e = set (set (set (set (set l at (e .instant)) (at + 1) (e .kind)) (at + 2) (e .task)) (at + 3) (e .signal)) (at + 4) (e .value)
+
+-- the trace with one record from word `at` on, where it fits; else as it was
+unfoldable pub putAt : List ℕ → ℕ → Entry → List ℕ
+putAt l at e = cond (leb (at + 5) (length l)) (store l at e) l
+
+-- the trace with records from word `at` on, each where it fits
+unfoldable pub over : List ℕ → ℕ → List Entry → List ℕ
+over l at [] = l
+over l at (e ∷ es) = over (putAt l at e) (at + 5) es
