@@ -2,10 +2,12 @@
 use Prim.Native.Nat.{ℕ, zero, suc, _+_, _-_, _<_, _≤_}
 use mathlib.Core.Path.{_≡_, refl, ap, sym, _∙_}
 use mathlib.Core.Bool.{Bool, true, false, cond, not, _&&_, false≢true}
-use mathlib.Core.List.{List, [], _∷_, map}
+use mathlib.Core.List.{List, [], _∷_, _++_, map, append-assoc}
 use native.Mathlib.Omega.{arith}
 use native.Mathlib.Numerals.{add-one}
-use lib.ListN.{length, getD}
+use native.Mathlib.Nat.{zero-add, sub-zero, zero-sub, suc-sub-suc}
+use lib.ListN.{length, getD, set, take, drop, replicate, length-replicate, drop-of-length-le}
+use lib.Seq.{sets, sets-eq, set-at, drop-cons, take-append-add}
 use lib.Dec.{eqb}
 use Rattle.lists.specs.Lists.{tab, all, absent}
 
@@ -77,3 +79,52 @@ module _ {A : Type 0} (p : A → Bool) (f : ℕ → A) (n k : ℕ) (t : Bool) wh
   pub all-done : n ≤ k → (t && all p (tab f k (n - k))) ≡ t
   unfolding all
   all-done h = rw (tab-done f n k h) (and-true t)
+
+-- ---- an array that is filled place by place
+pub tab-last : {A : Type 0} (f : ℕ → A) (k n : ℕ) → tab f k (n + 1) ≡ tab f k n ++ (f (k + n) ∷ [])
+unfolding tab
+tab-last f k zero = ap (λ (i : ℕ). f i ∷ []) (omega arith)
+tab-last f k (suc n) =
+    let e : suc n + 1 ≡ suc (n + 1) = omega arith in
+    rw (e, tab-last f (k + 1) n) (ap (λ (i : ℕ). f k ∷ (tab f (k + 1) n ++ (f i ∷ []))) (omega arith))
+
+-- k places of n hold what a rule says, the others 0: one place more
+pub fill-more : (f : ℕ → ℕ) (n k : ℕ) → k < n
+    → set (tab f 0 k ++ replicate (n - k) 0) k (f k) ≡ tab f 0 (k + 1) ++ replicate (n - (k + 1)) 0
+fill-more f n k h =
+    rw (more n k h, tab-last f 0 k, zero-add k)
+    (set-at (tab f 0 k) 0 (replicate (n - (k + 1)) 0) (f k) k (length-tab f 0 k) ∙ sym (append-assoc (tab f 0 k) (f k ∷ []) (replicate (n - (k + 1)) 0)))
+
+-- a list that is stored from place i on: what is left of it from its place j on
+pub sets-drop : (l xs : List ℕ) (i j : ℕ) → j < length xs
+    → sets l (i + j) (drop j xs) ≡ sets (set l (i + j) (getD xs j 0)) (i + (j + 1)) (drop (j + 1) xs)
+sets-drop l xs i j h =
+    let e : i + (j + 1) ≡ suc (i + j) = omega arith in
+    rw (drop-cons xs j 0 h, e, add-one j)
+
+pub sets-dropped : (l xs : List ℕ) (i j : ℕ) → length xs ≤ j → sets l i (drop j xs) ≡ l
+sets-dropped l xs i j h = rw (drop-of-length-le xs {i = j} h)
+
+-- two lists one after the other
+pub sets-append : (l : List ℕ) (i : ℕ) (xs ys : List ℕ) → sets l i (xs ++ ys) ≡ sets (sets l i xs) (i + length xs) ys
+sets-append l i [] ys = ap (λ (k : ℕ). sets l k ys) (omega arith)
+sets-append l i (x ∷ xs) ys =
+    sets-append (set l i x) (suc i) xs ys ∙ ap (λ (k : ℕ). sets (sets (set l i x) (suc i) xs) k ys) (omega arith)
+
+take-replicate : {A : Type 0} (x : A) (m n : ℕ) → m ≤ n → take m (replicate n x) ≡ replicate m x
+take-replicate x zero n h = refl
+take-replicate x (suc m) zero h = absurd (omega arith)
+take-replicate x (suc m) (suc n) h = rw (take-replicate x m n (omega arith))
+
+drop-replicate : {A : Type 0} (x : A) (m n : ℕ) → drop m (replicate n x) ≡ replicate (n - m) x
+drop-replicate x zero n = rw sub-zero
+drop-replicate x (suc m) zero = rw zero-sub
+drop-replicate x (suc m) (suc n) = rw suc-sub-suc (drop-replicate x m n)
+
+-- stored from the start of an array of zeros, a list stands there with zeros after it
+pub sets-zeros : (n : ℕ) (xs : List ℕ) → length xs ≤ n → sets (replicate n 0) 0 xs ≡ take n (xs ++ replicate n 0)
+sets-zeros n xs h =
+    let e : n ≡ length xs + (n - length xs) = omega arith in
+    sets-eq xs (replicate n 0) 0 (rw (length-replicate {A = ℕ} n 0) (omega arith))
+    ∙ ap (λ (l : List ℕ). xs ++ l) (rw (zero-add (length xs)) (drop-replicate 0 (length xs) n ∙ sym (take-replicate 0 (n - length xs) n (omega arith))))
+    ∙ sym (ap (λ (k : ℕ). take k (xs ++ replicate n 0)) e ∙ take-append-add xs (replicate n 0) (n - length xs))

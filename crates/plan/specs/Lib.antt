@@ -1,3 +1,4 @@
 pub mod File
 pub mod Rules
 pub mod Accepted
+pub mod Order
