@@ -23,7 +23,7 @@ broken-append (x ∷ xs) ys h = go (x .holds) (broken-append xs ys (h .1))
   where
     go : (b : Bool) → firstBroken (xs ++ ys) ≡ orElse (firstBroken xs) (firstBroken ys)
         → cond b (firstBroken (xs ++ ys)) (verdict (x .number) (x .place))
-          ≡ orElse (cond b (firstBroken xs) (verdict (x .number) (x .place))) (firstBroken ys)
+        ≡ orElse (cond b (firstBroken xs) (verdict (x .number) (x .place))) (firstBroken ys)
     go true e = e
     go false e = rw (ne-eqb (x .number) 0 (λ p. omega (arith, h .0, p)))
 
@@ -79,8 +79,14 @@ refusal-first (r ∷ rs) h = go (r .holds) refl (λ z. refusal-first rs z) h
     go true e f z =
         let g = f z in
         record {
-          before = r ∷ g .before; broken = g .broken; later = g .later; split = ap (λ (l : List Rule). r ∷ l) (g .split);
-          kept = rw e (g .kept); breaks = g .breaks; says = g .says }
+          before = r ∷ g .before;
+          broken = g .broken;
+          later = g .later;
+          split = ap (λ (l : List Rule). r ∷ l) (g .split);
+          kept = rw e (g .kept);
+          breaks = g .breaks;
+          says = g .says;
+        }
     go false e f z = record { before = []; broken = r; later = rs; split = refl; kept = refl; breaks = e; says = refl }
 
 -- ---- one answer for one verdict: so a contract that fixes what an answer says fixes the answer

@@ -61,7 +61,13 @@ fn body_case(plan: &[u8], task: u32) -> bool {
 // Entry 7: 1, the record and the place that the reader moves on to; or 0 and the place where it stays.
 fn reader_case(events: &[u8], place: u32) -> bool {
     match event_reader::read(events, place as usize) {
-        Reading::Record { instant, kind, target, value, next } => {
+        Reading::Record {
+            instant,
+            kind,
+            target,
+            value,
+            next,
+        } => {
             print(b"1 ", instant);
             print(b" ", kind);
             print(b" ", target);
@@ -98,7 +104,11 @@ fn read_part(buffer: &mut [u8], size: usize) -> bool {
 
 // The start of a buffer.
 fn start_of(buffer: &[u8], size: usize) -> &[u8] {
-    if size <= buffer.len() { &buffer[..size] } else { &buffer[..0] }
+    if size <= buffer.len() {
+        &buffer[..size]
+    } else {
+        &buffer[..0]
+    }
 }
 
 // One case; whether the next may follow.
@@ -126,7 +136,12 @@ fn one_case() -> bool {
     if !read_part(&mut state, state_bytes) {
         return bad_case();
     }
-    answer_case(word(&head, 0), word(&head, 1), start_of(&plan, plan_bytes), start_of(&events, event_bytes))
+    answer_case(
+        word(&head, 0),
+        word(&head, 1),
+        start_of(&plan, plan_bytes),
+        start_of(&events, event_bytes),
+    )
 }
 
 // A proved loop has to end, and nothing says that a stream does: the turns are counted down from a number that no run uses up.

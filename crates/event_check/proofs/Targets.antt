@@ -59,7 +59,7 @@ module _ (bytes : List ℕ) where
   releases-same e =
       rw (tasks-length bytes)
       (behind (eqb (e .kind) 1) (ltb (e .target) (taskCount ws)) _ _ (eqb (e .value) 0)
-        (λ t. ap (λ (k : Task). eqb (k .period) 0) (sym (task-is bytes (e .target) (ltb-true (e .target) (taskCount ws) t)))))
+      (λ t. ap (λ (k : Task). eqb (k .period) 0) (sym (task-is bytes (e .target) (ltb-true (e .target) (taskCount ws) t)))))
 
   written-is : writtenBy (tab (λ i. taskOf (bodyOf ws (i + 1))) 0 (taskCount ws)) ≡ markAll 0 (allOutputs (planOf bytes .tasks))
   unfolding planOf
@@ -70,15 +70,15 @@ module _ (bytes : List ℕ) where
     sets-same e =
         rw (signals-length bytes)
         (last-behind (eqb (e .kind) 2) (ltb (e .target) (signalCount ws)) _ _
-          (λ t. let h = ltb-true (e .target) (signalCount ws) t in
-            let s = signals-small bytes accepted in
-            ap not (written-marks bytes accepted (e .target) (omega arith)) ∙ not-not (absent (e .target) (allOutputs (planOf bytes .tasks)))))
+        (λ t. let h = ltb-true (e .target) (signalCount ws) t in
+        let s = signals-small bytes accepted in
+        ap not (written-marks bytes accepted (e .target) (omega arith)) ∙ not-not (absent (e .target) (allOutputs (planOf bytes .tasks)))))
 
     pub list-is : (eventBytes : List ℕ) → listBy ws eventBytes ≡ eventListRules bytes eventBytes
     list-is eventBytes =
         rw written-is
         (ap (λ (rs : List Rule). rule 9 0 (eventSizeRule eventBytes) ∷ rs)
-          (rules-same _ _ (λ e. ap₂ (λ (a b : Bool). a || b) (releases-same e) (sets-same e)) 0 0 (eventsOf eventBytes)))
+        (rules-same _ _ (λ e. ap₂ (λ (a b : Bool). a || b) (releases-same e) (sets-same e)) 0 0 (eventsOf eventBytes)))
 
 -- ---- the plan's verdict first
 pub plan-decides : (planBytes eventBytes : List ℕ) → eqb (planVerdict planBytes .number) 0 ≡ false → eventsVerdict planBytes eventBytes ≡ planVerdict planBytes

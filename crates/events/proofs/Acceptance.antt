@@ -208,6 +208,6 @@ pub accepted-exactly : (planBytes eventBytes : List ℕ)
     → (Accepted planBytes × AcceptedEvents planBytes eventBytes) ↔ (eventsVerdict planBytes eventBytes .number ≡ 0)
 accepted-exactly planBytes eventBytes =
     let list-iff : (allHold (eventListRules planBytes eventBytes) ≡ true) ↔ AcceptedEvents planBytes eventBytes
-        = (list-accepted planBytes eventBytes, accepted-list planBytes eventBytes) in
+    = (list-accepted planBytes eventBytes, accepted-list planBytes eventBytes) in
     let both = hold-append (planRules planBytes) (eventListRules planBytes eventBytes) in
     Iff·symm (Iff·trans (verdict-decides planBytes eventBytes .accepts) (Iff·trans both (Iff·and (rules-iff planBytes) list-iff)))

@@ -110,10 +110,18 @@ actionsFrom ws first n = tab (λ j. actionAt ws (first + j * 5)) 0 n
 
 unfoldable pub taskOf : List ℕ → Task
 taskOf ws = record {
-    priority = word ws 0; period = word ws 1; deadline = word ws 2; execution = word ws 3; offset = word ws 4; kind = word ws 5;
-    initial = word ws 6; inputs = values ws inputsAt (inputCount ws); outputs = values ws (outputsAt ws) (outputCount ws);
-    transitions = transitionsFrom ws (transitionsAt ws) (transitionCount ws);
-    actions = actionsFrom ws (actionsAt ws) (actionCount ws) }
+  priority = word ws 0;
+  period = word ws 1;
+  deadline = word ws 2;
+  execution = word ws 3;
+  offset = word ws 4;
+  kind = word ws 5;
+  initial = word ws 6;
+  inputs = values ws inputsAt (inputCount ws);
+  outputs = values ws (outputsAt ws) (outputCount ws);
+  transitions = transitionsFrom ws (transitionsAt ws) (transitionCount ws);
+  actions = actionsFrom ws (actionsAt ws) (actionCount ws);
+}
 
 -- ---- the whole plan
 pub record Plan : Type 0 where
@@ -133,8 +141,18 @@ planOf bytes =
 -- what stands past the last task
 abbrev pub noTask : Task
 noTask = record {
-    priority = 0; period = 0; deadline = 0; execution = 0; offset = 0; kind = 0; initial = 0;
-    inputs = []; outputs = []; transitions = []; actions = [] }
+  priority = 0;
+  period = 0;
+  deadline = 0;
+  execution = 0;
+  offset = 0;
+  kind = 0;
+  initial = 0;
+  inputs = [];
+  outputs = [];
+  transitions = [];
+  actions = [];
+}
 
 -- task i of a plan
 abbrev pub taskAt : Plan → ℕ → Task

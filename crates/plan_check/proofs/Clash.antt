@@ -103,9 +103,10 @@ pub tasks-below : (outputs : Bool) (s i : ℕ) (bodies : List (List ℕ)) → s 
 unfolding taskRules
 tasks-below outputs s i [] h e = tt
 tasks-below outputs s i (ws ∷ rest) h e =
-    let both = sym (all-append (oneTask s i ws) (taskRules s (i + 1) rest)) ∙ e in
-    (numbers-below outputs s i ws h (and-left (allHold (oneTask s i ws)) (allHold (taskRules s (i + 1) rest)) both),
-      tasks-below outputs s (i + 1) rest h (and-right (allHold (oneTask s i ws)) (allHold (taskRules s (i + 1) rest)) both))
+    let both = sym (all-append (oneTask s i ws) (taskRules s (i + 1) rest)) ∙ e in (
+      numbers-below outputs s i ws h (and-left (allHold (oneTask s i ws)) (allHold (taskRules s (i + 1) rest)) both),
+      tasks-below outputs s (i + 1) rest h (and-right (allHold (oneTask s i ws)) (allHold (taskRules s (i + 1) rest)) both),
+    )
 
 -- ---- the rules from 4 on, as the check goes through them
 module _ (bytes : List ℕ) where
@@ -119,10 +120,12 @@ module _ (bytes : List ℕ) where
   found-is : (outputs : Bool) → signalCount (wordsOf bytes) ≤ 64 → firstBroken (eachTask bytes) .number ≡ 0
       → found outputs ≡ firstBroken (clashRules (clashNumber outputs) 0 [] (map (numbersOf outputs) (map taskOf (taskBodies (wordsOf bytes)))))
   found-is outputs h e =
-      rw (map-tab taskOf (λ i. bodyOf (wordsOf bytes) (i + 1)) 0 (taskCount (wordsOf bytes)),
-        map-tab (numbersOf outputs) (λ i. taskOf (bodyOf (wordsOf bytes) (i + 1))) 0 (taskCount (wordsOf bytes)))
+      rw (
+        map-tab taskOf (λ i. bodyOf (wordsOf bytes) (i + 1)) 0 (taskCount (wordsOf bytes)),
+        map-tab (numbersOf outputs) (λ i. taskOf (bodyOf (wordsOf bytes) (i + 1))) 0 (taskCount (wordsOf bytes)),
+      )
       (clash-is (clashNumber outputs) _ (rw (map-tab (λ b. numbersOf outputs (taskOf b)) (λ i. bodyOf (wordsOf bytes) (i + 1)) 0 (taskCount (wordsOf bytes))) at
-        (tasks-below outputs (signalCount (wordsOf bytes)) 0 (taskBodies (wordsOf bytes)) h (zero-all (eachTask bytes) (tasks-numbered _ 0 (taskBodies (wordsOf bytes))) e))))
+      (tasks-below outputs (signalCount (wordsOf bytes)) 0 (taskBodies (wordsOf bytes)) h (zero-all (eachTask bytes) (tasks-numbered _ 0 (taskBodies (wordsOf bytes))) e))))
 
   -- "Order: 1, 2, 3; then ..": a broken rule among the first three decides
   pub head-decides : eqb (firstBroken (headRules bytes) .number) 0 ≡ false → planVerdict bytes ≡ firstBroken (headRules bytes)
@@ -148,8 +151,8 @@ module _ (bytes : List ℕ) where
   clashes-are h e =
       broken-append (eachTask bytes) (priorityRules bytes ++ outputRules bytes) (tasks-numbered _ 0 (taskBodies (wordsOf bytes)))
       ∙ rw (eq-eqb (firstBroken (eachTask bytes) .number) 0 e)
-        (broken-append (priorityRules bytes) (outputRules bytes) (clash-numbered 7 0 [] (map priorityOf (planOf bytes .tasks)) (omega arith))
-        ∙ sym (ap₂ orElse (found-is false h e) (found-is true h e)))
+      (broken-append (priorityRules bytes) (outputRules bytes) (clash-numbered 7 0 [] (map priorityOf (planOf bytes .tasks)) (omega arith))
+      ∙ sym (ap₂ orElse (found-is false h e) (found-is true h e)))
 
   -- else the first task that breaks one of them
   pub tasks-decide : eqb (firstBroken (eachTask bytes) .number) 0 ≡ false

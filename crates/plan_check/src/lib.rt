@@ -28,7 +28,9 @@ fn head_holds(bytes: &[u8]) -> bool
     let version = word(bytes, 0);
     let signals = word(bytes, 1);
     let tasks = word(bytes, 2);
-    (version == 1) & ((1 <= signals) & (signals <= limits::SIGNALS)) & ((1 <= tasks) & (tasks <= limits::TASKS))
+    (version == 1)
+        & ((1 <= signals) & (signals <= limits::SIGNALS))
+        & ((1 <= tasks) & (tasks <= limits::TASKS))
 }
 
 // Rule 3, the entries. Starts and lengths are any 32-bit numbers: their sum is taken in 64 bits and cannot wrap.
@@ -138,7 +140,11 @@ pub fn mark_one(bytes: &[u8], task: u32, outputs: bool, before: u64) -> Marked
 fn clash_at(outputs: bool, task: u32) -> Answer
     ensures { λ r. ⌜ said r ≡ verdict (clashNumber outputs) task ⌝ }
 {
-    if outputs { Answer::SameOutput { task } } else { Answer::SamePriority { task } }
+    if outputs {
+        Answer::SameOutput { task }
+    } else {
+        Answer::SamePriority { task }
+    }
 }
 
 // Rules 7 and 8: the first task whose priority, or one of whose outputs, an earlier one has.

@@ -11,7 +11,7 @@ use Rattle.plan.specs.Rules.{transitionRule, sameOrder, transitionsRule}
 module _ (ni : ℕ) (f : ℕ → Transition) (n k : ℕ) (t : Bool) where
   pub transitions-more : k < n
       → (t && transitionsRule ni (tab f k (n - k)))
-        ≡ ((t && (transitionRule ni (f k) && all (λ y. not (sameOrder (f k) y)) (tab f (k + 1) (n - (k + 1))))) && transitionsRule ni (tab f (k + 1) (n - (k + 1))))
+      ≡ ((t && (transitionRule ni (f k) && all (λ y. not (sameOrder (f k) y)) (tab f (k + 1) (n - (k + 1))))) && transitionsRule ni (tab f (k + 1) (n - (k + 1))))
   unfolding transitionsRule
   transitions-more h = rw (tab-more f n k h) (and-assoc t _ _)
 

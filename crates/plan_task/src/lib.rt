@@ -21,7 +21,11 @@ fn shape_holds(part: &[u8]) -> bool
     let outputs = word(part, 8);
     let transitions = word(part, 9);
     let actions = word(part, 10);
-    let formula = 11 + inputs as usize + outputs as usize + transitions as usize * 4 + actions as usize * 5;
+    let formula = 11
+        + inputs as usize
+        + outputs as usize
+        + transitions as usize * 4
+        + actions as usize * 5;
     (11 <= length)
         & (inputs <= limits::PORTS)
         & (outputs <= limits::PORTS)
@@ -39,7 +43,8 @@ fn timing_holds(part: &[u8]) -> bool
     let deadline = word(part, 2);
     let execution = word(part, 3);
     let offset = word(part, 4);
-    let release = ((period == 0) & (offset == 0)) | ((period != 0) & (deadline <= period) & (offset < period));
+    let release = ((period == 0) & (offset == 0))
+        | ((period != 0) & (deadline <= period) & (offset < period));
     ((1 <= priority) & (priority <= limits::PRIORITY))
         & ((1 <= execution) & (execution <= limits::TIME))
         & (period <= limits::TIME)
@@ -143,7 +148,8 @@ fn action_holds(part: &[u8], at: usize, ports: Ports) -> bool
     let a = word(part, at + 2);
     let b = word(part, at + 3);
     let c = word(part, at + 4);
-    let second = ((kind == 4) & (ports.lowest <= b) & (b < ports.outputs) & (b != a)) | ((kind != 4) & (b == 0));
+    let second = ((kind == 4) & (ports.lowest <= b) & (b < ports.outputs) & (b != a))
+        | ((kind != 4) & (b == 0));
     ((1 <= state) & (state <= limits::STATES))
         & ((1 <= kind) & (kind <= 4))
         & (ports.lowest <= a)

@@ -92,9 +92,9 @@ part-words s start size =
     let first = min start (length s / 4) in
     words-of-part s first (min size (length s / 4 - first))
     ∙ rw (← words-length s) (
-      ap (λ (k : ℕ). take (min size k) (drop (min start (length (wordsOf s))) (wordsOf s))) (sym (length-drop (min start (length (wordsOf s))) (wordsOf s)))
-      ∙ cut-take size (drop (min start (length (wordsOf s))) (wordsOf s))
-      ∙ ap (take size) (cut-drop start (wordsOf s)))
+    ap (λ (k : ℕ). take (min size k) (drop (min start (length (wordsOf s))) (wordsOf s))) (sym (length-drop (min start (length (wordsOf s))) (wordsOf s)))
+    ∙ cut-take size (drop (min start (length (wordsOf s))) (wordsOf s))
+    ∙ ap (take size) (cut-drop start (wordsOf s)))
 
 -- a part that lies inside is not cut
 pub part-inside : (s : List ℕ) (start size : ℕ) → start + size ≤ length s / 4 → partOf s start size ≡ take (size * 4) (drop (start * 4) s)

@@ -23,7 +23,11 @@ fn four(bytes: &[u8], k: usize) -> u32
 pub fn word(bytes: &[u8], i: usize) -> u32
     ensures { λ r. ⌜ r ≡ wordAt (now (bytes .entry)) i ⌝ }
 {
-    if i < bytes.len() / 4 { four(bytes, i * 4) } else { 0 }
+    if i < bytes.len() / 4 {
+        four(bytes, i * 4)
+    } else {
+        0
+    }
 }
 
 fn smaller(a: usize, b: usize) -> usize

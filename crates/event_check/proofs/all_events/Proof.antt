@@ -16,7 +16,7 @@ abbrev Inv-loop : tie.InvT-loop
 Inv-loop plan events count written last₀ i₀ last i =
     (i ≤ count)
     × (firstBroken (eventRules (contentBy (wordsOf plan) written) 0 0 (tab (eventOf (wordsOf events)) 0 count))
-      ≡ firstBroken (eventRules (contentBy (wordsOf plan) written) i last (tab (eventOf (wordsOf events)) i (count - i))))
+    ≡ firstBroken (eventRules (contentBy (wordsOf plan) written) i last (tab (eventOf (wordsOf events)) i (count - i))))
 
 abbrev μ-loop : tie.MeasureT-loop
 μ-loop plan events count written last₀ i₀ last i = count - i
@@ -26,14 +26,26 @@ loop-holds c = (search needs, rw sub-zero)
 
 returns : tie.Need-returns Inv-loop μ-loop
 returns c =
-    rw (c .before .before .before .before .loop .inv .1, verdict-more _ _ _ _ _ (c .before .before .before .loop-test .taken), ← c .before .before .one-event .ensures, ← c .before .accepted .ensures,
-      not-true (c .before .accepted .result) (c .if1 .taken))
+    rw (
+      c .before .before .before .before .loop .inv .1,
+      verdict-more _ _ _ _ _ (c .before .before .before .loop-test .taken),
+      ← c .before .before .one-event .ensures,
+      ← c .before .accepted .ensures,
+      not-true (c .before .accepted .result) (c .if1 .taken),
+    )
 
 loop-again : tie.Need-loop-again Inv-loop μ-loop
-loop-again c =
-    (search needs,
-      rw (c .before .before .before .before .before .loop .inv .1, verdict-more _ _ _ _ _ (c .before .before .before .before .loop-test .taken), ← c .before .before .before .one-event .ensures, ← c .before .before .accepted .ensures,
-        not-false (c .before .before .accepted .result) (c .before .if1 .left), c .word .ensures))
+loop-again c = (
+  search needs,
+  rw (
+    c .before .before .before .before .before .loop .inv .1,
+    verdict-more _ _ _ _ _ (c .before .before .before .before .loop-test .taken),
+    ← c .before .before .before .one-event .ensures,
+    ← c .before .before .accepted .ensures,
+    not-false (c .before .before .accepted .result) (c .before .if1 .left),
+    c .word .ensures,
+  ),
+)
 
 returns-2 : tie.Need-returns-2 Inv-loop μ-loop
 returns-2 c = rw (c .before .loop .inv .1, verdict-done _ _ _ _ _ (c .loop-test .left))

@@ -12,14 +12,24 @@ returns c =
 returns-2 : tie.Need-returns-2
 unfolding firstBroken
 returns-2 c =
-    rw (← c .before .content-holds .ensures, ← c .before .before .before .before .word .ensures, ← c .before .before .before .instant-holds .ensures, not-false (c .before .before .before .instant-holds .result) (c .before .before .if1 .left),
-      not-true (c .before .content-holds .result) (c .if2 .taken))
+    rw (
+      ← c .before .content-holds .ensures,
+      ← c .before .before .before .before .word .ensures,
+      ← c .before .before .before .instant-holds .ensures,
+      not-false (c .before .before .before .instant-holds .result) (c .before .before .if1 .left),
+      not-true (c .before .content-holds .result) (c .if2 .taken),
+    )
 
 returns-3 : tie.Need-returns-3
 unfolding firstBroken
 returns-3 c =
-    rw (← c .before .content-holds .ensures, ← c .before .before .before .before .word .ensures, ← c .before .before .before .instant-holds .ensures, not-false (c .before .before .before .instant-holds .result) (c .before .before .if1 .left),
-      not-false (c .before .content-holds .result) (c .if2 .left))
+    rw (
+      ← c .before .content-holds .ensures,
+      ← c .before .before .before .before .word .ensures,
+      ← c .before .before .before .instant-holds .ensures,
+      not-false (c .before .before .before .instant-holds .result) (c .before .before .if1 .left),
+      not-false (c .before .content-holds .result) (c .if2 .left),
+    )
 
 pub one-event-spec : {M : Type 1} → statement M
 one-event-spec =

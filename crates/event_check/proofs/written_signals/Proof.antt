@@ -16,7 +16,7 @@ abbrev Inv-loop : tie.InvT-loop
 Inv-loop plan tasks marks₀ i₀ marks i =
     (i ≤ tasks)
     × (writtenBy (tab (λ j. taskOf (bodyOf (wordsOf plan) (j + 1))) 0 tasks)
-      ≡ markAll marks (allOutputs (tab (λ j. taskOf (bodyOf (wordsOf plan) (j + 1))) i (tasks - i))))
+    ≡ markAll marks (allOutputs (tab (λ j. taskOf (bodyOf (wordsOf plan) (j + 1))) i (tasks - i))))
 
 abbrev μ-loop : tie.MeasureT-loop
 μ-loop plan tasks marks₀ i₀ marks i = tasks - i
@@ -25,9 +25,10 @@ loop-holds : tie.Need-loop-holds Inv-loop μ-loop
 loop-holds c = (search needs, rw sub-zero)
 
 loop-again : tie.Need-loop-again Inv-loop μ-loop
-loop-again c =
-    (search needs,
-      rw (c .before .before .loop .inv .1, written-more _ _ _ _ (c .before .loop-test .taken), ap (λ (m : Marked). m .marks) (c .mark-one .ensures)))
+loop-again c = (
+  search needs,
+  rw (c .before .before .loop .inv .1, written-more _ _ _ _ (c .before .loop-test .taken), ap (λ (m : Marked). m .marks) (c .mark-one .ensures)),
+)
 
 returns : tie.Need-returns Inv-loop μ-loop
 returns c = rw (c .before .loop .inv .1, written-done _ _ _ _ (c .loop-test .left))

@@ -11,19 +11,19 @@ returns : tie.Need-returns
 returns c =
     c .before .before .check .ensures
     ∙ sym (plan-decides (c .before .before .before .before .args .plan .now) (c .before .before .before .before .args .task)
-      (asked false (c .before .accepted .result) _ _ (c .before .accepted .ensures) (not-true (c .before .accepted .result) (c .if1 .taken)) (c .before .before .check .ensures)))
+    (asked false (c .before .accepted .result) _ _ (c .before .accepted .ensures) (not-true (c .before .accepted .result) (c .if1 .taken)) (c .before .before .check .ensures)))
 
 returns-2 : tie.Need-returns-2
 returns-2 c =
     sym (task-decides (c .before .before .before .before .before .before .args .plan .now) (c .before .before .before .before .before .before .args .task)
-      (asked true (c .before .before .before .accepted .result) _ _ (c .before .before .before .accepted .ensures) (not-false (c .before .before .before .accepted .result) (c .before .before .if1 .left)) (c .before .before .before .before .check .ensures))
-      true (rw (← c .before .word .ensures) (lt-ltb _ _ (c .if2 .taken))))
+    (asked true (c .before .before .before .accepted .result) _ _ (c .before .before .before .accepted .ensures) (not-false (c .before .before .before .accepted .result) (c .before .before .if1 .left)) (c .before .before .before .before .check .ensures))
+    true (rw (← c .before .word .ensures) (lt-ltb _ _ (c .if2 .taken))))
 
 returns-3 : tie.Need-returns-3
 returns-3 c =
     sym (task-decides (c .before .before .before .before .before .before .args .plan .now) (c .before .before .before .before .before .before .args .task)
-      (asked true (c .before .before .before .accepted .result) _ _ (c .before .before .before .accepted .ensures) (not-false (c .before .before .before .accepted .result) (c .before .before .if1 .left)) (c .before .before .before .before .check .ensures))
-      false (rw (← c .before .word .ensures) (le-ltb _ _ (c .if2 .left))))
+    (asked true (c .before .before .before .accepted .result) _ _ (c .before .before .before .accepted .ensures) (not-false (c .before .before .before .accepted .result) (c .before .before .if1 .left)) (c .before .before .before .before .check .ensures))
+    false (rw (← c .before .word .ensures) (le-ltb _ _ (c .if2 .left))))
 
 pub body-answer-spec : {M : Type 1} → statement M
 body-answer-spec =

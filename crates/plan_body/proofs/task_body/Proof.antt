@@ -23,7 +23,7 @@ returns c =
 inside : (c : tie.After-word2) → (c .before .word .result + c .word2 .result) ≤ length (c .before .before .before .before .before .before .args .plan .now) / 4
 inside c =
     let seen = found (c .before .before .before .before .before .before .args .plan .now) (c .before .before .before .before .before .before .args .task)
-      (eqb-true _ 0 (asked true (c .before .before .before .accepted .result) _ _ (c .before .before .before .accepted .ensures) (not-false (c .before .before .before .accepted .result) (c .before .before .if1 .left)) (c .before .before .before .before .body-answer .ensures))) in
+    (eqb-true _ 0 (asked true (c .before .before .before .accepted .result) _ _ (c .before .before .before .accepted .ensures) (not-false (c .before .before .before .accepted .result) (c .before .before .if1 .left)) (c .before .before .before .before .body-answer .ensures))) in
     rw (c .before .word .ensures, c .word2 .ensures) (task-bytes (c .before .before .before .before .before .before .args .plan .now) (accepted (c .before .before .before .before .before .before .args .plan .now) (seen .accepted)) (c .before .before .before .before .before .before .args .task) (seen .below))
 
 part-result-end-2 : tie.Need-part-result-end-2
@@ -32,8 +32,11 @@ part-result-end-2 c = omega (arith, inside c)
 returns-2 : tie.Need-returns-2
 returns-2 c =
     let size : c .before .before .word .result * 4 + c .before .word2 .result * 4 - c .before .before .word .result * 4 ≡ c .before .word2 .result * 4 = omega arith in
-    rw (asked true (c .before .before .before .before .accepted .result) _ _ (c .before .before .before .before .accepted .ensures) (not-false (c .before .before .before .before .accepted .result) (c .before .before .before .if1 .left)) (c .before .before .before .before .before .body-answer .ensures),
-      ← c .before .before .word .ensures, ← c .before .word2 .ensures)
+    rw (
+      asked true (c .before .before .before .before .accepted .result) _ _ (c .before .before .before .before .accepted .ensures) (not-false (c .before .before .before .before .accepted .result) (c .before .before .before .if1 .left)) (c .before .before .before .before .before .body-answer .ensures),
+      ← c .before .before .word .ensures,
+      ← c .before .word2 .ensures,
+    )
     (record { stands = refl; holds = rw size })
 
 pub task-body-spec : {M : Type 1} → statement M

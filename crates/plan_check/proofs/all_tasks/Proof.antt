@@ -16,7 +16,7 @@ abbrev Inv-loop : tie.InvT-loop
 Inv-loop bytes signals tasks i₀ i =
     (i ≤ tasks)
     × (firstBroken (taskRules signals 0 (tab (λ j. bodyOf (wordsOf bytes) (j + 1)) 0 tasks))
-      ≡ firstBroken (taskRules signals i (tab (λ j. bodyOf (wordsOf bytes) (j + 1)) i (tasks - i))))
+    ≡ firstBroken (taskRules signals i (tab (λ j. bodyOf (wordsOf bytes) (j + 1)) i (tasks - i))))
 
 abbrev μ-loop : tie.MeasureT-loop
 μ-loop bytes signals tasks i₀ i = tasks - i
@@ -26,14 +26,25 @@ loop-holds c = (search needs, rw sub-zero)
 
 returns : tie.Need-returns Inv-loop μ-loop
 returns c =
-    rw (c .before .before .before .before .loop .inv .1, tasks-more _ _ _ _ (c .before .before .before .loop-test .taken), ← c .before .before .one-task .ensures, ← c .before .accepted .ensures,
-      not-true (c .before .accepted .result) (c .if1 .taken))
+    rw (
+      c .before .before .before .before .loop .inv .1,
+      tasks-more _ _ _ _ (c .before .before .before .loop-test .taken),
+      ← c .before .before .one-task .ensures,
+      ← c .before .accepted .ensures,
+      not-true (c .before .accepted .result) (c .if1 .taken),
+    )
 
 loop-again : tie.Need-loop-again Inv-loop μ-loop
-loop-again c =
-    (search needs,
-      rw (c .before .before .before .before .loop .inv .1, tasks-more _ _ _ _ (c .before .before .before .loop-test .taken), ← c .before .before .one-task .ensures, ← c .before .accepted .ensures,
-        not-false (c .before .accepted .result) (c .if1 .left)))
+loop-again c = (
+  search needs,
+  rw (
+    c .before .before .before .before .loop .inv .1,
+    tasks-more _ _ _ _ (c .before .before .before .loop-test .taken),
+    ← c .before .before .one-task .ensures,
+    ← c .before .accepted .ensures,
+    not-false (c .before .accepted .result) (c .if1 .left),
+  ),
+)
 
 returns-2 : tie.Need-returns-2 Inv-loop μ-loop
 returns-2 c = rw (c .before .loop .inv .1, tasks-done _ _ _ _ (c .loop-test .left))

@@ -17,7 +17,7 @@ returns : tie.Need-returns
 returns c =
     c .before .before .head-answer .ensures
     ∙ sym (head-decides (c .before .before .before .before .args .bytes .now)
-      (asked false (c .before .accepted .result) _ _ (c .before .accepted .ensures) (not-true (c .before .accepted .result) (c .if1 .taken)) (c .before .before .head-answer .ensures)))
+    (asked false (c .before .accepted .result) _ _ (c .before .accepted .ensures) (not-true (c .before .accepted .result) (c .if1 .taken)) (c .before .before .head-answer .ensures)))
 
 -- the first three rules hold
 passed : (c : tie.After-all-tasks) → eqb (firstBroken (headRules (c .before .before .before .before .before .before .before .args .bytes .now)) .number) 0 ≡ true
@@ -32,8 +32,8 @@ returns-2 c =
     let bytes = c .before .before .before .before .before .before .before .before .before .args .bytes .now in
     each (c .before .before)
     ∙ sym (head-passes bytes (passed (c .before .before))
-      ∙ tasks-decide bytes
-        (asked false (c .before .accepted2 .result) _ _ (c .before .accepted2 .ensures) (not-true (c .before .accepted2 .result) (c .if2 .taken)) (each (c .before .before))))
+    ∙ tasks-decide bytes
+    (asked false (c .before .accepted2 .result) _ _ (c .before .accepted2 .ensures) (not-true (c .before .accepted2 .result) (c .if2 .taken)) (each (c .before .before))))
 
 returns-3 : tie.Need-returns-3
 returns-3 c =
@@ -41,7 +41,7 @@ returns-3 c =
     let hold = asked true (c .before .before .accepted2 .result) _ _ (c .before .before .accepted2 .ensures) (not-false (c .before .before .accepted2 .result) (c .before .if2 .left)) (each (c .before .before .before)) in
     (rw (c .before .before .before .before .word2 .ensures) at (c .clashes .ensures))
     ∙ sym (head-passes bytes (passed (c .before .before .before))
-      ∙ clashes-are bytes (signals-limit bytes (passed (c .before .before .before))) (eqb-true _ 0 hold))
+    ∙ clashes-are bytes (signals-limit bytes (passed (c .before .before .before))) (eqb-true _ 0 hold))
 
 pub check-spec : {M : Type 1} → statement M
 check-spec =

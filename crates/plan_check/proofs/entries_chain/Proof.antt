@@ -22,9 +22,11 @@ loop-holds : tie.Need-loop-holds Inv-loop μ-loop
 loop-holds c = (search needs, search needs, rw sub-zero)
 
 loop-again : tie.Need-loop-again Inv-loop μ-loop
-loop-again c =
-    (search needs, search needs,
-      rw (c .before .before .before .loop .inv .2, chained-more _ _ _ _ _ (c .before .before .loop-test .taken), c .before .word .ensures, c .word2 .ensures))
+loop-again c = (
+  search needs,
+  search needs,
+  rw (c .before .before .before .loop .inv .2, chained-more _ _ _ _ _ (c .before .before .loop-test .taken), c .before .word .ensures, c .word2 .ensures),
+)
 
 returns : tie.Need-returns Inv-loop μ-loop
 returns c = rw (c .before .loop .inv .2, chained-done _ _ _ _ _ (c .loop-test .left), words-length)

@@ -16,7 +16,7 @@ abbrev Inv-loop : tie.InvT-loop
 Inv-loop bytes tasks outputs marks₀ i₀ marks i =
     (i ≤ tasks)
     × (clashFrom (clashNumber outputs) 0 0 (tab (λ j. numbersOf outputs (taskOf (bodyOf (wordsOf bytes) (j + 1)))) 0 tasks)
-      ≡ clashFrom (clashNumber outputs) i marks (tab (λ j. numbersOf outputs (taskOf (bodyOf (wordsOf bytes) (j + 1)))) i (tasks - i)))
+    ≡ clashFrom (clashNumber outputs) i marks (tab (λ j. numbersOf outputs (taskOf (bodyOf (wordsOf bytes) (j + 1)))) i (tasks - i)))
 
 abbrev μ-loop : tie.MeasureT-loop
 μ-loop bytes tasks outputs marks₀ i₀ marks i = tasks - i
@@ -26,14 +26,24 @@ loop-holds c = (search needs, rw sub-zero)
 
 returns : tie.Need-returns Inv-loop μ-loop
 returns c =
-    rw (c .before .before .before .before .before .loop .inv .1, clash-more _ _ _ _ _ (c .before .before .before .before .loop-test .taken), ← ap (λ (m : Marked). m .new) (c .before .before .before .mark-one .ensures),
-      not-true (c .before .before .before .mark-one .result .new) (c .before .if1 .taken)) (c .clash-at .ensures)
+    rw (
+      c .before .before .before .before .before .loop .inv .1,
+      clash-more _ _ _ _ _ (c .before .before .before .before .loop-test .taken),
+      ← ap (λ (m : Marked). m .new) (c .before .before .before .mark-one .ensures),
+      not-true (c .before .before .before .mark-one .result .new) (c .before .if1 .taken),
+    ) (c .clash-at .ensures)
 
 loop-again : tie.Need-loop-again Inv-loop μ-loop
-loop-again c =
-    (search needs,
-      rw (c .before .before .before .before .loop .inv .1, clash-more _ _ _ _ _ (c .before .before .before .loop-test .taken), ← ap (λ (m : Marked). m .new) (c .before .before .mark-one .ensures),
-        not-false (c .before .before .mark-one .result .new) (c .if1 .left), ap (λ (m : Marked). m .marks) (c .before .before .mark-one .ensures)))
+loop-again c = (
+  search needs,
+  rw (
+    c .before .before .before .before .loop .inv .1,
+    clash-more _ _ _ _ _ (c .before .before .before .loop-test .taken),
+    ← ap (λ (m : Marked). m .new) (c .before .before .mark-one .ensures),
+    not-false (c .before .before .mark-one .result .new) (c .if1 .left),
+    ap (λ (m : Marked). m .marks) (c .before .before .mark-one .ensures),
+  ),
+)
 
 returns-2 : tie.Need-returns-2 Inv-loop μ-loop
 returns-2 c = rw (c .before .loop .inv .1, clash-done _ _ _ _ _ (c .loop-test .left))

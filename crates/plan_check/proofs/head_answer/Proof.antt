@@ -14,8 +14,12 @@ returns c = rw (← c .before .size-holds .ensures, not-true (c .before .size-ho
 returns-2 : tie.Need-returns-2
 unfolding firstBroken
 returns-2 c =
-    rw (← c .before .before .before .size-holds .ensures, not-false (c .before .before .before .size-holds .result) (c .before .before .if1 .left),
-      ← c .before .head-holds .ensures, not-true (c .before .head-holds .result) (c .if2 .taken))
+    rw (
+      ← c .before .before .before .size-holds .ensures,
+      not-false (c .before .before .before .size-holds .result) (c .before .before .if1 .left),
+      ← c .before .head-holds .ensures,
+      not-true (c .before .head-holds .result) (c .if2 .taken),
+    )
 
 contents-hold-requires : tie.Need-contents-hold-requires
 contents-hold-requires c κs = tasks-limit (wordsOf (c .before .before .before .before .before .args .bytes .now)) (sym (c .before .head-holds .ensures) ∙ not-false (c .before .head-holds .result) (c .if2 .left))
@@ -23,16 +27,26 @@ contents-hold-requires c κs = tasks-limit (wordsOf (c .before .before .before .
 returns-3 : tie.Need-returns-3
 unfolding firstBroken
 returns-3 c =
-    rw (← c .before .before .before .before .before .size-holds .ensures, not-false (c .before .before .before .before .before .size-holds .result) (c .before .before .before .before .if1 .left),
-      ← c .before .before .before .head-holds .ensures, not-false (c .before .before .before .head-holds .result) (c .before .before .if2 .left),
-      ← c .before .contents-hold .ensures, not-true (c .before .contents-hold .result) (c .if3 .taken))
+    rw (
+      ← c .before .before .before .before .before .size-holds .ensures,
+      not-false (c .before .before .before .before .before .size-holds .result) (c .before .before .before .before .if1 .left),
+      ← c .before .before .before .head-holds .ensures,
+      not-false (c .before .before .before .head-holds .result) (c .before .before .if2 .left),
+      ← c .before .contents-hold .ensures,
+      not-true (c .before .contents-hold .result) (c .if3 .taken),
+    )
 
 returns-4 : tie.Need-returns-4
 unfolding firstBroken
 returns-4 c =
-    rw (← c .before .before .before .before .before .size-holds .ensures, not-false (c .before .before .before .before .before .size-holds .result) (c .before .before .before .before .if1 .left),
-      ← c .before .before .before .head-holds .ensures, not-false (c .before .before .before .head-holds .result) (c .before .before .if2 .left),
-      ← c .before .contents-hold .ensures, not-false (c .before .contents-hold .result) (c .if3 .left))
+    rw (
+      ← c .before .before .before .before .before .size-holds .ensures,
+      not-false (c .before .before .before .before .before .size-holds .result) (c .before .before .before .before .if1 .left),
+      ← c .before .before .before .head-holds .ensures,
+      not-false (c .before .before .before .head-holds .result) (c .before .before .if2 .left),
+      ← c .before .contents-hold .ensures,
+      not-false (c .before .contents-hold .result) (c .if3 .left),
+    )
 
 pub head-answer-spec : {M : Type 1} → statement M
 head-answer-spec =

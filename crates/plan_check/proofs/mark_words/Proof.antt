@@ -24,10 +24,11 @@ loop-holds : tie.Need-loop-holds Inv-loop μ-loop
 loop-holds c = (search needs, rw sub-zero, rw sub-zero)
 
 loop-again : tie.Need-loop-again Inv-loop μ-loop
-loop-again c =
-    (search needs,
-      rw (c .before .before .before .before .loop .inv .1, new-more _ _ _ _ _ (c .before .before .before .loop-test .taken), c .with-mark .ensures, c .before .is-marked .ensures, c .before .before .word .ensures),
-      rw (c .before .before .before .before .loop .inv .2, mark-more _ _ _ _ (c .before .before .before .loop-test .taken), c .with-mark .ensures, c .before .before .word .ensures))
+loop-again c = (
+  search needs,
+  rw (c .before .before .before .before .loop .inv .1, new-more _ _ _ _ _ (c .before .before .before .loop-test .taken), c .with-mark .ensures, c .before .is-marked .ensures, c .before .before .word .ensures),
+  rw (c .before .before .before .before .loop .inv .2, mark-more _ _ _ _ (c .before .before .before .loop-test .taken), c .with-mark .ensures, c .before .before .word .ensures),
+)
 
 returns : tie.Need-returns Inv-loop μ-loop
 returns c = rw (c .before .loop .inv .1, c .before .loop .inv .2, new-done _ _ _ _ _ (c .loop-test .left), mark-done _ _ _ _ (c .loop-test .left))

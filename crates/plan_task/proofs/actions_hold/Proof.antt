@@ -15,7 +15,7 @@ abbrev Inv-loop : tie.InvT-loop
 Inv-loop part first count ports good₀ j₀ good j =
     (j ≤ count)
     × (all (actionRule (ports .inputs) (ports .outputs) (ports .lowest)) (actionsFrom (wordsOf part) first count)
-      ≡ (good && all (actionRule (ports .inputs) (ports .outputs) (ports .lowest)) (tab (λ i. actionAt (wordsOf part) (first + i * 5)) j (count - j))))
+    ≡ (good && all (actionRule (ports .inputs) (ports .outputs) (ports .lowest)) (tab (λ i. actionAt (wordsOf part) (first + i * 5)) j (count - j))))
 
 abbrev μ-loop : tie.MeasureT-loop
 μ-loop part first count ports good₀ j₀ good j = count - j

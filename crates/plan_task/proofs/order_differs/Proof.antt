@@ -14,7 +14,7 @@ abbrev Inv-loop : tie.InvT-loop
 Inv-loop part first j count at from order good₀ k₀ good k =
     (k ≤ count)
     × (all (λ y. not (sameOrder (transitionAt (wordsOf part) (first + j * 4)) y)) (tab (λ i. transitionAt (wordsOf part) (first + i * 4)) (j + 1) (count - (j + 1)))
-      ≡ (good && all (λ y. not (sameOrder (transitionAt (wordsOf part) (first + j * 4)) y)) (tab (λ i. transitionAt (wordsOf part) (first + i * 4)) k (count - k))))
+    ≡ (good && all (λ y. not (sameOrder (transitionAt (wordsOf part) (first + j * 4)) y)) (tab (λ i. transitionAt (wordsOf part) (first + i * 4)) k (count - k))))
 
 abbrev μ-loop : tie.MeasureT-loop
 μ-loop part first j count at from order good₀ k₀ good k = count - k

@@ -15,7 +15,7 @@ abbrev Inv-loop : tie.InvT-loop
 Inv-loop part skip count signals start good₀ j₀ good j =
     (j ≤ count)
     × (all (λ x. ltb x signals) (values (wordsOf part) start count)
-      ≡ (good && all (λ x. ltb x signals) (tab (λ i. word (wordsOf part) (start + i)) j (count - j))))
+    ≡ (good && all (λ x. ltb x signals) (tab (λ i. word (wordsOf part) (start + i)) j (count - j))))
 
 abbrev μ-loop : tie.MeasureT-loop
 μ-loop part skip count signals start good₀ j₀ good j = count - j

@@ -11,22 +11,36 @@ returns c = rw (← c .before .shape-holds .ensures, not-true (c .before .shape-
 returns-2 : tie.Need-returns-2
 unfolding firstBroken
 returns-2 c =
-    rw (← c .before .before .before .shape-holds .ensures, not-false (c .before .before .before .shape-holds .result) (c .before .before .if1 .left),
-      ← c .before .timing-holds .ensures, not-true (c .before .timing-holds .result) (c .if2 .taken))
+    rw (
+      ← c .before .before .before .shape-holds .ensures,
+      not-false (c .before .before .before .shape-holds .result) (c .before .before .if1 .left),
+      ← c .before .timing-holds .ensures,
+      not-true (c .before .timing-holds .result) (c .if2 .taken),
+    )
 
 returns-3 : tie.Need-returns-3
 unfolding firstBroken
 returns-3 c =
-    rw (← c .before .before .before .before .before .shape-holds .ensures, not-false (c .before .before .before .before .before .shape-holds .result) (c .before .before .before .before .if1 .left),
-      ← c .before .before .before .timing-holds .ensures, not-false (c .before .before .before .timing-holds .result) (c .before .before .if2 .left),
-      ← c .before .body-holds .ensures, not-true (c .before .body-holds .result) (c .if3 .taken))
+    rw (
+      ← c .before .before .before .before .before .shape-holds .ensures,
+      not-false (c .before .before .before .before .before .shape-holds .result) (c .before .before .before .before .if1 .left),
+      ← c .before .before .before .timing-holds .ensures,
+      not-false (c .before .before .before .timing-holds .result) (c .before .before .if2 .left),
+      ← c .before .body-holds .ensures,
+      not-true (c .before .body-holds .result) (c .if3 .taken),
+    )
 
 returns-4 : tie.Need-returns-4
 unfolding firstBroken
 returns-4 c =
-    rw (← c .before .before .before .before .before .shape-holds .ensures, not-false (c .before .before .before .before .before .shape-holds .result) (c .before .before .before .before .if1 .left),
-      ← c .before .before .before .timing-holds .ensures, not-false (c .before .before .before .timing-holds .result) (c .before .before .if2 .left),
-      ← c .before .body-holds .ensures, not-false (c .before .body-holds .result) (c .if3 .left))
+    rw (
+      ← c .before .before .before .before .before .shape-holds .ensures,
+      not-false (c .before .before .before .before .before .shape-holds .result) (c .before .before .before .before .if1 .left),
+      ← c .before .before .before .timing-holds .ensures,
+      not-false (c .before .before .before .timing-holds .result) (c .before .before .if2 .left),
+      ← c .before .body-holds .ensures,
+      not-false (c .before .body-holds .result) (c .if3 .left),
+    )
 
 pub task-answer-spec : {M : Type 1} → statement M
 task-answer-spec =

@@ -15,7 +15,7 @@ abbrev Inv-loop : tie.InvT-loop
 Inv-loop part first count inputs good₀ j₀ good j =
     (j ≤ count)
     × (transitionsRule inputs (transitionsFrom (wordsOf part) first count)
-      ≡ (good && transitionsRule inputs (tab (λ i. transitionAt (wordsOf part) (first + i * 4)) j (count - j))))
+    ≡ (good && transitionsRule inputs (tab (λ i. transitionAt (wordsOf part) (first + i * 4)) j (count - j))))
 
 abbrev μ-loop : tie.MeasureT-loop
 μ-loop part first count inputs good₀ j₀ good j = count - j
