@@ -2,11 +2,12 @@
 ghost use mathlib.Core.Path.{_≡_};
 ghost use Prim.Native.Nat.{_<_, _^_};
 ghost use mathlib.Core.Bool.{cond};
-ghost use lib.ListN.{getD, set};
 ghost use Rattle.words.specs.Words.{wordsOf};
 ghost use Rattle.plan.specs.File.{taskOf, transitionsAt, transitionAt, actionAt};
 ghost use Rattle.body.specs.Body.{sooner, look, fires, after, move, doAction, perform, runActions, runIf, leaves, supervise, control, body};
 ghost use Rattle.body.specs.Steps.{inHand};
+use arrays::get;
+use arrays::put;
 
 const PORTS: usize = limits::PORTS as usize;
 
@@ -27,22 +28,6 @@ const INPUTS_AT: usize = 11;
 pub struct Result {
     pub machine: u32,
     pub held: [u32; PORTS],
-}
-
-// Value i, and 0 where there is none: total, so that no position in a damaged file can stray.
-fn get(values: &[u32], i: usize) -> u32
-    ensures { λ r. ⌜ r ≡ getD (now (values .entry)) i 0 ⌝ }
-{
-    if i < values.len() { values[i] } else { 0 }
-}
-
-// x at place i; nothing where there is no such place.
-fn put(values: &mut [u32], i: usize, x: u32)
-    ensures { λ _. ⌜ now (values .exit) ≡ set (now (values .entry)) i x ⌝ }
-{
-    if i < values.len() {
-        values[i] = x;
-    }
 }
 
 // The word at which the transitions start. The bounds are what its callers need to add to it safely.

@@ -1,7 +1,7 @@
 -- Document 01, 'The event list' and 'Numbers returned': what the words of an event list say, its rules 9..11, and the number
 -- and place of a refusal.
 use Prim.Native.Nat.{ℕ, _+_, _*_, _/_, _%_}
-use mathlib.Core.Bool.{Bool, _&&_, _||_}
+use mathlib.Core.Bool.{Bool, cond, _&&_, _||_}
 use mathlib.Core.List.{List, [], _∷_, _++_}
 use lib.ListN.{length}
 use lib.Dec.{leb, ltb, eqb}
@@ -74,3 +74,8 @@ checkRules planBytes eventBytes = planRules planBytes ++ eventListRules planByte
 -- the number and place of a plan with an event list
 abbrev pub eventsVerdict : List ℕ → List ℕ → Verdict
 eventsVerdict planBytes eventBytes = firstBroken (checkRules planBytes eventBytes)
+
+-- ---- "event place = number of events with instant < tick"
+unfoldable pub passed : ℕ → List Event → ℕ
+passed t [] = 0
+passed t (e ∷ rest) = cond (ltb (e .instant) t) 1 0 + passed t rest

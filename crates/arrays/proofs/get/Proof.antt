@@ -1,8 +1,8 @@
 use mathlib.Core.Path.{sym}
 use lib.ListN.{List·getD-eq-default}
 use borrow.Author.Needs.{needs}
-use Rattle.body.proofs.get.Statement.{statement}
-use Rattle.body.proofs.get.Tie as tie
+use Rattle.arrays.proofs.get.Statement.{statement}
+use Rattle.arrays.proofs.get.Tie as tie
 
 returns-2 : tie.Need-returns-2
 returns-2 c = sym (List·getD-eq-default (c .before .args .values .now) 0 {n = c .before .args .i} (c .if1 .left))

@@ -1,0 +1,5 @@
+pub mod Laws
+pub mod Sizes
+pub mod Zeros
+pub mod Fresh
+pub mod Fitting

@@ -1,0 +1,88 @@
+-- Document 01, 'Task states', once more: when a state fits, as a person would write it from the paper.
+use Prim.Native.Nat.{ℕ, _+_, _-_, _*_, _<_, _≤_}
+use mathlib.Core.Path.{_≡_}
+use mathlib.Core.List.{List}
+use mathlib.Core.Logic.{_≢_, _⊎_}
+use lib.ListN.{length, getD}
+use Rattle.limits.specs.Limits.{maxPorts, maxSignals, maxTasks, maxState, maxTime}
+use Rattle.lists.specs.Lists.{Between, Every}
+use Rattle.plan.specs.File.{Task, Plan, taskAt}
+use Rattle.events.specs.Events.{Event, passed}
+use Rattle.state.specs.State.{stateAt}
+use Rattle.state.specs.declared.Status.{Status}
+use Rattle.state.specs.declared.Status.the-variants.{READY, ACTIVE, FINISHED, ERROR}
+use Rattle.state.specs.declared.TaskState.{TaskState}
+use Rattle.state.specs.declared.State.{State}
+
+-- "8 latched inputs, 8 held outputs"
+pub record SizedTask (x : TaskState) : Type 0 where
+  pub latched : length (x .latched) ≡ maxPorts
+  pub held : length (x .held) ≡ maxPorts
+
+-- "64 signals", and a record for each task that a plan can have
+pub record Sized (s : State) : Type 0 where
+  pub signals : length (s .signals) ≡ maxSignals
+  pub tasks : length (s .tasks) ≡ maxTasks
+  pub ports : Every SizedTask (s .tasks)
+
+-- "ACTIVE and FINISHED": "in flight"
+abbrev pub InFlight : Status → Type 0
+InFlight status = (status ≡ ACTIVE) ⊎ (status ≡ FINISHED)
+
+abbrev pub AtRest : Status → Type 0
+AtRest status = (status ≡ READY) ⊎ (status ≡ ERROR)
+
+-- n is a multiple of d
+pub record Multiple (d n : ℕ) : Type 0 where
+  pub times : ℕ
+  pub product : n ≡ times * d
+
+-- before tick t: status, remaining ticks and release instant r of a task
+pub record Timed (t : ℕ) (k : Task) (status : Status) (remaining r : ℕ) : Type 0 where
+  -- "ACTIVE has remaining 1..execution, the others 0"
+  pub active : status ≡ ACTIVE → Between 1 (k .execution) remaining
+  pub others : status ≢ ACTIVE → remaining ≡ 0
+  -- "ACTIVE and FINISHED have release instant r < tick and, with D > 0, tick ≤ r + D"
+  pub released : InFlight status → r < t
+  pub inTime : InFlight status → 0 < k .deadline → t ≤ r + k .deadline
+  -- "FINISHED only where D > 0"
+  pub finished : status ≡ FINISHED → 0 < k .deadline
+  -- "a periodic task in flight has r ≥ offset, r − offset a multiple of the period, and tick ≤ r + period"
+  pub offset : InFlight status → 0 < k .period → k .offset ≤ r
+  pub multiple : InFlight status → 0 < k .period → Multiple (k .period) (r - k .offset)
+  pub inPeriod : InFlight status → 0 < k .period → t ≤ r + k .period
+  -- "READY and ERROR have r = 0"
+  pub atRest : AtRest status → r ≡ 0
+
+-- a task of the plan
+pub record TaskFits (t : ℕ) (k : Task) (x : TaskState) : Type 0 where
+  pub timed : Timed t k (x .status) (x .remaining) (x .release)
+  -- "latched inputs and held outputs beyond ni and no, are 0"
+  pub latched : (i : ℕ) → length (k .inputs) ≤ i → getD (x .latched) i 0 ≡ 0
+  pub held : (i : ℕ) → length (k .outputs) ≤ i → getD (x .held) i 0 ≡ 0
+  -- "machine state 1..16 for a supervisor, 0 for a controller"
+  pub supervisor : k .kind ≡ 1 → Between 1 maxState (x .machine)
+  pub controller : k .kind ≡ 2 → x .machine ≡ 0
+
+-- "all-zero READY"
+pub record AllZero (x : TaskState) : Type 0 where
+  pub status : x .status ≡ READY
+  pub remaining : x .remaining ≡ 0
+  pub release : x .release ≡ 0
+  pub machine : x .machine ≡ 0
+  pub latched : (i : ℕ) → getD (x .latched) i 0 ≡ 0
+  pub held : (i : ℕ) → getD (x .held) i 0 ≡ 0
+
+-- "A state fits (else 12) when"
+pub record Fits (plan : Plan) (events : List Event) (s : State) : Type 0 where
+  pub sizes : Sized s
+  -- "tick ≤ 1,000,000"
+  pub tick : s .tick ≤ maxTime
+  -- "event place = number of events with instant < tick"
+  pub place : s .place ≡ passed (s .tick) events
+  -- "signals from S on .. are 0"
+  pub signals : (i : ℕ) → length (plan .signals) ≤ i → getD (s .signals) i 0 ≡ 0
+  -- each task of the plan
+  pub tasks : (i : ℕ) → i < length (plan .tasks) → TaskFits (s .tick) (taskAt plan i) (stateAt (s .tasks) i)
+  -- "tasks from T on are all-zero READY"
+  pub rest : (i : ℕ) → length (plan .tasks) ≤ i → AllZero (stateAt (s .tasks) i)

@@ -1,0 +1,4 @@
+pub mod State
+pub mod Fits
+pub mod Fitting
+pub mod Steps

@@ -1,0 +1,33 @@
+-- What the parts of steps 0 and 2 hand each other.
+use Prim.Native.Nat.{ℕ, _+_, _*_}
+use mathlib.Core.Path.{_≡_}
+use mathlib.Core.Bool.{Bool, cond, _&&_}
+use mathlib.Core.List.{List}
+use lib.ListN.{set, replicate}
+use lib.Dec.{eqb}
+use Rattle.limits.specs.Limits.{maxPorts}
+use Rattle.events.specs.Events.{Event}
+use Rattle.trace.specs.Trace.{over}
+use Rattle.trace.specs.declared.Entry.{Entry}
+use Rattle.arrays.specs.Arrays.{active, withField, rowField}
+use Rattle.tick.specs.Turns.{requests}
+use Rattle.steps.specs.Flat.{taskOfRow, latch, isDue}
+
+-- one event takes effect if it sets a signal
+abbrev pub setOne : Event → List ℕ → List ℕ
+setOne e signals = cond (eqb (e .kind) 2) (set signals (e .target) (e .value)) signals
+
+-- how often the task of row j is asked to start: by the release events of the tick, or once where it is periodic and due
+abbrev pub askedOf : ℕ → List ℕ → List Event → ℕ → ℕ
+askedOf t rows now j =
+    cond (eqb (rowField rows j 1) 0) (requests (taskOfRow rows j) now) (cond (isDue t (rowField rows j 4) (rowField rows j 1)) 1 0)
+
+-- so many records of one kind
+pub record Ignored (old-trace new-trace : List ℕ) (from end count : ℕ) (e : Entry) : Type 0 where
+  pub trace : new-trace ≡ over old-trace from (replicate count e)
+  pub ends : end ≡ from + 5 * count
+
+-- the task of row j starts
+pub record Started (rows : List ℕ) (j t : ℕ) (signals old-tasks new-tasks old-latched new-latched : List ℕ) : Type 0 where
+  pub tasks : new-tasks ≡ withField (withField (withField old-tasks (taskOfRow rows j) 0 active) (taskOfRow rows j) 1 (rowField rows j 3)) (taskOfRow rows j) 2 t
+  pub latched : new-latched ≡ latch rows j signals maxPorts 0 old-latched

@@ -1,0 +1,270 @@
+// Document 01, 'One tick', steps 0 and 2 over the lent arrays: the events of a tick, and releases.
+ghost use mathlib.Core.Path.{_≡_};
+ghost use mathlib.Core.List.{List};
+ghost use mathlib.Core.Bool.{cond};
+ghost use Prim.Native.Nat.{ℕ, _+_, _*_, _-_, _<_, _≤_, _^_};
+ghost use lib.Dec.{eqb};
+ghost use lib.ListN.{length, replicate};
+ghost use Rattle.limits.specs.Limits.{maxPorts};
+ghost use Rattle.words.specs.Words.{wordsOf};
+ghost use Rattle.events.specs.Events.{eventOf};
+ghost use Rattle.trace.specs.Trace.{over, entry, ignoredKind};
+ghost use Rattle.tick.specs.Turns.{requests};
+ghost use Rattle.tick.specs.Tick.{setNow};
+ghost use Rattle.arrays.specs.Arrays.{Does, rowField};
+ghost use Rattle.steps.specs.Flat.{endFrom, between, taskOfRow, latchedAt, latch, isDue, grant, eachRow};
+ghost use Rattle.step_releases.specs.Asked.{setOne, askedOf, Ignored, Started};
+use arrays::get;
+use arrays::put;
+use arrays::row_field;
+use arrays::task_field;
+use trace::Entry;
+use words::word;
+
+// The place after the last event of instant t, where those of t start at a place.
+pub fn end_of(events: &[u8], t: u32, place: u32, count: u32) -> u32
+    requires { ⌜ (place ≤ count) × (count < 2 ^ 30) ⌝ }
+    ensures { λ r. ⌜ r ≡ endFrom (wordsOf (now (events .entry))) t (count - place) place ⌝ }
+    ensures bounds { λ r. ⌜ (place ≤ r) × (r ≤ count) ⌝ }
+{
+    let mut p = place;
+    while p < count {
+        if word(events, p as usize * 4) != t {
+            return p;
+        }
+        p += 1;
+    }
+    p
+}
+
+// One event takes effect if it sets a signal.
+fn set_signal(events: &[u8], p: u32, signals: &mut [u32])
+    ensures { λ _. ⌜ now (signals .exit) ≡ setOne (eventOf (wordsOf (now (events .entry))) p) (now (signals .entry)) ⌝ }
+{
+    let at = p as usize * 4;
+    if word(events, at + 1) == 2 {
+        put(signals, word(events, at + 2) as usize, word(events, at + 3));
+    }
+}
+
+// Step 0: the set events from a place to another, in list order.
+pub fn set_signals(events: &[u8], from: u32, to: u32, signals: &mut [u32])
+    ensures { λ _. ⌜ now (signals .exit) ≡ setNow (between (wordsOf (now (events .entry))) from to) (now (signals .entry)) ⌝ }
+{
+    let mut p = from;
+    while p < to {
+        set_signal(events, p, signals);
+        p += 1;
+    }
+}
+
+// How many of the events from a place to another release a task.
+fn requests_of(events: &[u8], from: u32, to: u32, task: u32) -> u32
+    ensures { λ r. ⌜ r ≡ requests task (between (wordsOf (now (events .entry))) from to) ⌝ }
+{
+    let mut n: u32 = 0;
+    let mut p = from;
+    while p < to {
+        let at = p as usize * 4;
+        let kind = word(events, at + 1);
+        let target = word(events, at + 2);
+        n = n + one_if((kind == 1) & (target == task));
+        p += 1;
+    }
+    n
+}
+
+fn one_if(b: bool) -> u32
+    ensures { λ r. ⌜ r ≡ cond b 1 0 ⌝ }
+    ensures small { λ r. ⌜ r ≤ 1 ⌝ }
+{
+    if b { 1 } else { 0 }
+}
+
+// All inputs of the task of a row are latched: eight ports, 0 beyond its inputs.
+fn latch_row(rows: &[u32], row: u32, signals: &[u32], latched: &mut [u32])
+    ensures { λ _. ⌜ now (latched .exit) ≡ latch (now (rows .entry)) row (now (signals .entry)) maxPorts 0 (now (latched .entry)) ⌝ }
+{
+    let task = row_field(rows, row, 0);
+    let mut p: u32 = 0;
+    while p < limits::PORTS {
+        let value = latched_at(rows, row, signals, p);
+        put(latched, task as usize * 8 + p as usize, value);
+        p += 1;
+    }
+}
+
+fn latched_at(rows: &[u32], row: u32, signals: &[u32], p: u32) -> u32
+    ensures { λ r. ⌜ r ≡ latchedAt (now (rows .entry)) row (now (signals .entry)) p ⌝ }
+{
+    if p < row_field(rows, row, 7) {
+        let signal = get(rows, row as usize * 32 + (16 + p as usize));
+        get(signals, signal as usize)
+    } else {
+        0
+    }
+}
+
+// The instant of a tick, and the places between which its events stand.
+pub struct Instant {
+    pub t: u32,
+    pub first: u32,
+    pub last: u32,
+}
+
+// Whether a periodic task is due.
+fn is_due(t: u32, offset: u32, period: u32) -> bool
+    requires { ⌜ 0 < period ⌝ }
+    ensures { λ r. ⌜ r ≡ isDue t offset period ⌝ }
+{
+    if t < offset {
+        return false;
+    }
+    (t - offset) % period == 0
+}
+
+// How often the task of a row is asked to start: the release events of the tick, or 1 where a periodic task is due.
+fn asked_of(rows: &[u32], row: u32, events: &[u8], moment: Instant) -> u32
+    ensures { λ r. ⌜ r ≡ askedOf (moment .t) (now (rows .entry)) (between (wordsOf (now (events .entry))) (moment .first) (moment .last)) row ⌝ }
+{
+    let task = row_field(rows, row, 0);
+    let period = row_field(rows, row, 1);
+    if period == 0 {
+        return requests_of(events, moment.first, moment.last, task);
+    }
+    let offset = row_field(rows, row, 4);
+    one_if(is_due(moment.t, offset, period))
+}
+
+// So many records of kind 5.
+fn ignore(t: u32, task: u32, count: u32, trace: &mut [u32], from: usize) -> usize
+    requires { ⌜ from < 2 ^ 62 ⌝ }
+    ensures { λ r. ⌜ Ignored (now (trace .entry)) (now (trace .exit)) from r count (entry t ignoredKind task) ⌝ }
+{
+    let mut at = from;
+    let mut k: u32 = 0;
+    while k < count {
+        trace::put(
+            trace,
+            at,
+            Entry {
+                instant: t,
+                kind: 5,
+                task,
+                signal: 0,
+                value: 0,
+            },
+        );
+        at = at + 5;
+        k += 1;
+    }
+    at
+}
+
+// The task of a row starts: ACTIVE, its execution time to go, released now, its inputs latched.
+fn start_row(
+    rows: &[u32],
+    row: u32,
+    t: u32,
+    signals: &[u32],
+    tasks: &mut [u32],
+    latched: &mut [u32],
+)
+    ensures { λ _. ⌜ Started (now (rows .entry)) row t (now (signals .entry)) (now (tasks .entry)) (now (tasks .exit)) (now (latched .entry)) (now (latched .exit)) ⌝ }
+{
+    let task = row_field(rows, row, 0);
+    let execution = row_field(rows, row, 3);
+    let at = task as usize * 4;
+    put(tasks, at, 1);
+    put(tasks, at + 1, execution);
+    put(tasks, at + 2, t);
+    latch_row(rows, row, signals, latched);
+}
+
+// The turn of one row.
+fn grant_row(
+    rows: &[u32],
+    row: u32,
+    events: &[u8],
+    moment: Instant,
+    signals: &[u32],
+    tasks: &mut [u32],
+    latched: &mut [u32],
+    trace: &mut [u32],
+    from: usize,
+) -> usize
+    requires { ⌜ from < 2 ^ 61 ⌝ }
+    ensures { λ r. ⌜ ((held : List ℕ) → Does (record { signals = now (signals .entry); tasks = now (tasks .exit); latched = now (latched .exit); held = held }) (now (trace .entry)) (now (trace .exit)) from r
+        (grant (moment .t) (now (rows .entry)) (between (wordsOf (now (events .entry))) (moment .first) (moment .last)) row (record { signals = now (signals .entry); tasks = now (tasks .entry); latched = now (latched .entry); held = held }))) ⌝ }
+    ensures near { λ r. ⌜ r ≤ from + 2 ^ 35 ⌝ }
+{
+    let t = moment.t;
+    let task = row_field(rows, row, 0);
+    let period = row_field(rows, row, 1);
+    let deadline = row_field(rows, row, 2);
+    let status = task_field(tasks, task, 0);
+    let asked = asked_of(rows, row, events, moment);
+    if status == 0 {
+        if asked == 0 {
+            return from;
+        }
+        start_row(rows, row, t, signals, tasks, latched);
+        trace::put(
+            trace,
+            from,
+            Entry {
+                instant: t,
+                kind: 1,
+                task,
+                signal: 0,
+                value: 0,
+            },
+        );
+        return ignore(t, task, asked - 1, trace, from + 5);
+    }
+    if period == 0 {
+        return ignore(t, task, asked, trace, from);
+    }
+    if (status == 1) & (asked != 0) & (deadline == 0) {
+        trace::put(
+            trace,
+            from,
+            Entry {
+                instant: t,
+                kind: 4,
+                task,
+                signal: 0,
+                value: 0,
+            },
+        );
+        step_deadlines::reset_task(tasks, task, 3);
+        return from + 5;
+    }
+    from
+}
+
+// Step 2: each of the first `count` rows in its turn; the word at which the records end.
+pub fn releases(
+    rows: &[u32],
+    count: u32,
+    events: &[u8],
+    moment: Instant,
+    signals: &[u32],
+    tasks: &mut [u32],
+    latched: &mut [u32],
+    trace: &mut [u32],
+    from: usize,
+) -> usize
+    requires { ⌜ (count ≤ 16) × (from < 2 ^ 60) ⌝ }
+    ensures { λ r. ⌜ ((held : List ℕ) → Does (record { signals = now (signals .entry); tasks = now (tasks .exit); latched = now (latched .exit); held = held }) (now (trace .entry)) (now (trace .exit)) from r
+        (eachRow (grant (moment .t) (now (rows .entry)) (between (wordsOf (now (events .entry))) (moment .first) (moment .last))) count 0 (record { signals = now (signals .entry); tasks = now (tasks .entry); latched = now (latched .entry); held = held }))) ⌝ }
+    ensures near { λ r. ⌜ r ≤ from + 2 ^ 39 ⌝ }
+{
+    let mut at = from;
+    let mut j: u32 = 0;
+    while j < count {
+        at = grant_row(rows, j, events, moment, signals, tasks, latched, trace, at);
+        j += 1;
+    }
+    at
+}

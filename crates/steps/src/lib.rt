@@ -1,0 +1,2 @@
+// Definitions and laws only: the steps of a tick over the arrays of numbers (specs/Flat.antt). The crates step_deadlines,
+// step_releases and step_running have the code; the crate whole shows that these are document 01's steps.
