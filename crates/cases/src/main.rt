@@ -4,6 +4,9 @@ use answers::Answer;
 use event_reader::Reading;
 use libc::STDIN_FILENO;
 use libc::STDOUT_FILENO;
+use state::State;
+use state::Status;
+use state::TaskState;
 use words::word;
 
 // The largest case.
@@ -14,6 +17,8 @@ const PLAN_BYTES: usize = 41_752;
 const EVENT_BYTES: usize = 16_400;
 
 const STATE_BYTES: usize = 1_544;
+
+const TASKS: usize = limits::TASKS as usize;
 
 // A number and what stands before it.
 fn print(before: &[u8], n: u32) {
@@ -58,6 +63,64 @@ fn body_case(plan: &[u8], task: u32) -> bool {
     end_line()
 }
 
+fn print_values(values: &[u32]) {
+    let mut i = 0;
+    while i < values.len() {
+        print(b" ", values[i]);
+        i += 1;
+    }
+}
+
+fn status_number(status: Status) -> u32 {
+    match status {
+        Status::READY => 0,
+        Status::ACTIVE => 1,
+        Status::FINISHED => 2,
+        Status::ERROR => 3,
+    }
+}
+
+fn print_task(task: TaskState) {
+    let status = task.status;
+    let latched = task.latched;
+    let held = task.held;
+    print(b" ", status_number(status));
+    print(b" ", task.remaining);
+    print(b" ", task.release);
+    print(b" ", task.machine);
+    print_values(&latched);
+    print_values(&held);
+}
+
+fn print_tasks(tasks: [TaskState; TASKS]) {
+    let mut i = 0;
+    while i < TASKS {
+        let task = tasks[i];
+        print_task(task);
+        i += 1;
+    }
+}
+
+// The state's words: tick, event place, signals, and the tasks.
+fn print_state(state: State) {
+    let signals = state.signals;
+    let tasks = state.tasks;
+    print(b" ", state.tick);
+    print(b" ", state.place);
+    print_values(&signals);
+    print_tasks(tasks);
+}
+
+// Entry 4: a fresh start.
+fn fresh_case(plan: &[u8]) -> bool {
+    let started = kernel::fresh_start(plan);
+    let answer = started.answer;
+    let state = started.state;
+    print_answer(answer);
+    print_state(state);
+    end_line()
+}
+
 // Entry 7: 1, the record and the place that the reader moves on to; or 0 and the place where it stays.
 fn reader_case(events: &[u8], place: u32) -> bool {
     match event_reader::read(events, place as usize) {
@@ -88,6 +151,7 @@ fn answer_case(entry: u32, argument: u32, plan: &[u8], events: &[u8]) -> bool {
         1 => check_case(plan_check::check(plan)),
         2 => check_case(event_check::check(plan, events)),
         3 => body_case(plan, argument),
+        4 => fresh_case(plan),
         7 => reader_case(events, argument),
         _ => bad_case(),
     }

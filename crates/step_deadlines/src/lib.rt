@@ -24,7 +24,7 @@ pub fn write_row(
     trace: &mut [u32],
     from: usize,
 ) -> usize
-    requires { ⌜ from < 2 ^ 62 ⌝ }
+    requires { ⌜ from < 2 ^ 63 ⌝ }
     ensures { λ r. ⌜ Wrote (now (signals .entry)) (now (signals .exit)) (now (trace .entry)) (now (trace .exit)) from r t (taskOfRow (now (rows .entry)) row) (rowWrites (now (rows .entry)) row (now (held .entry))) ⌝ }
     ensures near { λ r. ⌜ r ≤ from + 2 ^ 35 ⌝ }
 {
@@ -82,7 +82,7 @@ fn lapse_row(
     trace: &mut [u32],
     from: usize,
 ) -> usize
-    requires { ⌜ from < 2 ^ 62 ⌝ }
+    requires { ⌜ from < 2 ^ 63 ⌝ }
     ensures { λ r. ⌜ ((latched : List ℕ) → Does (record { signals = now (signals .exit); tasks = now (tasks .exit); latched = latched; held = now (held .entry) }) (now (trace .entry)) (now (trace .exit)) from r
         (lapse t (now (rows .entry)) row (record { signals = now (signals .entry); tasks = now (tasks .entry); latched = latched; held = now (held .entry) }))) ⌝ }
     ensures near { λ r. ⌜ r ≤ from + 2 ^ 35 ⌝ }
@@ -127,7 +127,7 @@ pub fn deadlines(
     trace: &mut [u32],
     from: usize,
 ) -> usize
-    requires { ⌜ (count ≤ 16) × (from < 2 ^ 61) ⌝ }
+    requires { ⌜ (count ≤ 16) × (from < 2 ^ 62 + 2 ^ 42) ⌝ }
     ensures { λ r. ⌜ ((latched : List ℕ) → Does (record { signals = now (signals .exit); tasks = now (tasks .exit); latched = latched; held = now (held .entry) }) (now (trace .entry)) (now (trace .exit)) from r
         (eachRow (lapse t (now (rows .entry))) count 0 (record { signals = now (signals .entry); tasks = now (tasks .entry); latched = latched; held = now (held .entry) }))) ⌝ }
     ensures near { λ r. ⌜ r ≤ from + 2 ^ 39 ⌝ }

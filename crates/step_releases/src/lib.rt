@@ -138,7 +138,7 @@ fn asked_of(rows: &[u32], row: u32, events: &[u8], moment: Instant) -> u32
 
 // So many records of kind 5.
 fn ignore(t: u32, task: u32, count: u32, trace: &mut [u32], from: usize) -> usize
-    requires { ⌜ from < 2 ^ 62 ⌝ }
+    requires { ⌜ from < 2 ^ 63 ⌝ }
     ensures { λ r. ⌜ Ignored (now (trace .entry)) (now (trace .exit)) from r count (entry t ignoredKind task) ⌝ }
 {
     let mut at = from;
@@ -193,7 +193,7 @@ fn grant_row(
     trace: &mut [u32],
     from: usize,
 ) -> usize
-    requires { ⌜ from < 2 ^ 61 ⌝ }
+    requires { ⌜ from < 2 ^ 62 + 2 ^ 43 ⌝ }
     ensures { λ r. ⌜ ((held : List ℕ) → Does (record { signals = now (signals .entry); tasks = now (tasks .exit); latched = now (latched .exit); held = held }) (now (trace .entry)) (now (trace .exit)) from r
         (grant (moment .t) (now (rows .entry)) (between (wordsOf (now (events .entry))) (moment .first) (moment .last)) row (record { signals = now (signals .entry); tasks = now (tasks .entry); latched = now (latched .entry); held = held }))) ⌝ }
     ensures near { λ r. ⌜ r ≤ from + 2 ^ 35 ⌝ }
@@ -255,7 +255,7 @@ pub fn releases(
     trace: &mut [u32],
     from: usize,
 ) -> usize
-    requires { ⌜ (count ≤ 16) × (from < 2 ^ 60) ⌝ }
+    requires { ⌜ (count ≤ 16) × (from < 2 ^ 62 + 2 ^ 42) ⌝ }
     ensures { λ r. ⌜ ((held : List ℕ) → Does (record { signals = now (signals .entry); tasks = now (tasks .exit); latched = now (latched .exit); held = held }) (now (trace .entry)) (now (trace .exit)) from r
         (eachRow (grant (moment .t) (now (rows .entry)) (between (wordsOf (now (events .entry))) (moment .first) (moment .last))) count 0 (record { signals = now (signals .entry); tasks = now (tasks .entry); latched = now (latched .entry); held = held }))) ⌝ }
     ensures near { λ r. ⌜ r ≤ from + 2 ^ 39 ⌝ }

@@ -1,0 +1,62 @@
+-- A run of ticks over the arrays, as the code does it.
+use Prim.Native.Nat.{ℕ, zero, suc, _+_, _-_, _*_, _<_, _≤_, _^_}
+use mathlib.Core.Path.{_≡_}
+use mathlib.Core.Bool.{Bool, true, false, cond}
+use mathlib.Core.List.{List, [], _++_}
+use lib.ListN.{length}
+use lib.Dec.{leb}
+use Rattle.limits.specs.Limits.{maxSignals, maxTasks, maxPorts, maxTime}
+use Rattle.trace.specs.Trace.{over}
+use Rattle.trace.specs.declared.Entry.{Entry}
+use Rattle.arrays.specs.Arrays.{Arrays, Step}
+use Rattle.step.specs.Step.{Given, placeAfter, stepFlat}
+use Rattle.step.specs.declared.Clock.{Clock}
+use Rattle.run.specs.declared.Ran.{Ran}
+
+-- the arrays have their lengths
+pub record Sizes (a : Arrays) : Type 0 where
+  pub signals : length (a .signals) ≡ maxSignals
+  pub tasks : length (a .tasks) ≡ maxTasks * 4
+  pub latched : length (a .latched) ≡ maxTasks * maxPorts
+  pub held : length (a .held) ≡ maxTasks * maxPorts
+
+-- what a run over the arrays comes to
+pub record Went : Type 0 where
+  pub full : Bool
+  pub ticks : ℕ
+  pub place : ℕ
+  pub arrays : Arrays
+  pub entries : List Entry
+
+abbrev pub halted : Bool → ℕ → Arrays → Went
+halted full place a = record { full = full; ticks = 0; place = place; arrays = a; entries = [] }
+
+abbrev pub further : Step → Went → Went
+further u w = record { full = w .full; ticks = suc (w .ticks); place = w .place; arrays = w .arrays; entries = u .entries ++ w .entries }
+
+-- "A tick is run only if all its records fit": room is the number of words that are left in the trace
+unfoldable pub runFlat : Given → ℕ → ℕ → ℕ → ℕ → Arrays → Went
+runFlat g room zero t place a = halted false place a
+runFlat g room (suc n) t place a =
+    let u = stepFlat g t place a in
+    let w = runFlat g (room - 5 * length (u .entries)) n (t + 1) (placeAfter g t place) (u .arrays) in
+    cond (leb (5 * length (u .entries)) room) (further u w) (halted true place a)
+
+-- what the code of a run returns and leaves, by what the definition says of it
+pub record Ends (clock : Clock) (r : Ran) (after : Arrays) (old-trace new-trace : List ℕ) (w : Went) : Type 0 where
+  pub full : r .full ≡ w .full
+  pub ticks : r .ticks ≡ w .ticks
+  pub tick : r .clock .tick ≡ clock .tick + w .ticks
+  pub place : r .clock .place ≡ w .place
+  pub arrays : after ≡ w .arrays
+  pub trace : new-trace ≡ over old-trace 0 (w .entries)
+  pub word : r .clock .at ≡ 5 * length (w .entries)
+  pub room : 5 * length (w .entries) ≤ length old-trace
+
+-- what a run may be asked: from the trace's start, no further than the last tick
+pub record Asked (count records asked : ℕ) (clock : Clock) : Type 0 where
+  pub rows : count ≤ maxTasks
+  pub events : records < 2 ^ 30
+  pub place : clock .place ≤ records
+  pub ticks : clock .tick + asked ≤ maxTime
+  pub word : clock .at ≡ 0

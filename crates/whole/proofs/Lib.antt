@@ -1,0 +1,11 @@
+pub mod Laws
+pub mod Schedule
+pub mod Apart
+pub mod Fields
+pub mod Ports
+pub mod Deadlines
+pub mod Releases
+pub mod Choice
+pub mod Running
+pub mod Events
+pub mod Tick
