@@ -20,6 +20,12 @@ const STATE_BYTES: usize = 1_544;
 
 const TASKS: usize = limits::TASKS as usize;
 
+const SIGNALS: usize = limits::SIGNALS as usize;
+
+const PORTS: usize = limits::PORTS as usize;
+
+const TRACE: usize = 15_000;
+
 // A number and what stands before it.
 fn print(before: &[u8], n: u32) {
     io::write_all(STDOUT_FILENO, before);
@@ -121,6 +127,122 @@ fn fresh_case(plan: &[u8]) -> bool {
     end_line()
 }
 
+fn print_size(n: usize) {
+    io::write_all(STDOUT_FILENO, b" ");
+    io::print_decimal(STDOUT_FILENO, n as u64);
+}
+
+// A run from a state on a lent trace, and what it left there.
+fn run_on(plan: &[u8], events: &[u8], state: State, asked: u32, trace: &mut [u32]) -> bool {
+    let ended = kernel::run(plan, events, state, asked, trace);
+    let answer = ended.answer;
+    let next = ended.state;
+    print_answer(answer);
+    print(b" ", ended.ticks);
+    print_size(ended.records);
+    print_values(&trace[0..]);
+    print_state(next);
+    end_line()
+}
+
+// Entries 5 and 6: every word of the lent trace is 4294967295.
+fn run_case(plan: &[u8], events: &[u8], state: State, asked: u32, words: u32) -> bool {
+    let mut trace = [limits::TOP_VALUE as u32; TRACE];
+    let size = words as usize;
+    if TRACE < size {
+        return bad_case();
+    }
+    run_on(plan, events, state, asked, &mut trace[..size])
+}
+
+fn fresh_run_case(plan: &[u8], events: &[u8], asked: u32, words: u32) -> bool {
+    let started = kernel::fresh_start(plan);
+    let state = started.state;
+    run_case(plan, events, state, asked, words)
+}
+
+// A status by its number; a number above 3 is none.
+fn status_of(n: u32) -> Status {
+    match n {
+        0 => Status::READY,
+        1 => Status::ACTIVE,
+        2 => Status::FINISHED,
+        _ => Status::ERROR,
+    }
+}
+
+fn eight_words(words: &[u8], from: usize) -> [u32; PORTS] {
+    let mut values = [0u32; PORTS];
+    let mut i: usize = 0;
+    while i < PORTS {
+        values[i] = word(words, from % 1000 + i);
+        i += 1;
+    }
+    values
+}
+
+fn task_from(words: &[u8], i: usize) -> TaskState {
+    let at = 66 + i % TASKS * 20;
+    let latched = eight_words(words, at + 4);
+    let held = eight_words(words, at + 12);
+    TaskState {
+        status: status_of(word(words, at)),
+        remaining: word(words, at + 1),
+        release: word(words, at + 2),
+        machine: word(words, at + 3),
+        latched,
+        held,
+    }
+}
+
+fn signals_from(words: &[u8]) -> [u32; SIGNALS] {
+    let mut signals = [0u32; SIGNALS];
+    let mut i: usize = 0;
+    while i < SIGNALS {
+        signals[i] = word(words, 2 + i);
+        i += 1;
+    }
+    signals
+}
+
+fn tasks_from(words: &[u8]) -> [TaskState; TASKS] {
+    let first = task_from(words, 0);
+    let mut tasks = [first; TASKS];
+    let mut i: usize = 0;
+    while i < TASKS {
+        let task = task_from(words, i);
+        tasks[i] = task;
+        i += 1;
+    }
+    tasks
+}
+
+// Whether the words are those of a state: as many as it has, and no status above 3.
+fn is_state(words: &[u8]) -> bool {
+    let mut good = words.len() == STATE_BYTES;
+    let mut i: usize = 0;
+    while i < TASKS {
+        good = good & (word(words, 66 + i * 20) <= 3);
+        i += 1;
+    }
+    good
+}
+
+fn state_run_case(plan: &[u8], events: &[u8], words: &[u8], asked: u32, trace: u32) -> bool {
+    if !is_state(words) {
+        return bad_case();
+    }
+    let signals = signals_from(words);
+    let tasks = tasks_from(words);
+    let state = State {
+        tick: word(words, 0),
+        place: word(words, 1),
+        signals,
+        tasks,
+    };
+    run_case(plan, events, state, asked, trace)
+}
+
 // Entry 7: 1, the record and the place that the reader moves on to; or 0 and the place where it stays.
 fn reader_case(events: &[u8], place: u32) -> bool {
     match event_reader::read(events, place as usize) {
@@ -146,12 +268,21 @@ fn reader_case(events: &[u8], place: u32) -> bool {
     end_line()
 }
 
-fn answer_case(entry: u32, argument: u32, plan: &[u8], events: &[u8]) -> bool {
+fn answer_case(
+    entry: u32,
+    argument: u32,
+    trace: u32,
+    plan: &[u8],
+    events: &[u8],
+    state: &[u8],
+) -> bool {
     match entry {
         1 => check_case(plan_check::check(plan)),
         2 => check_case(event_check::check(plan, events)),
         3 => body_case(plan, argument),
         4 => fresh_case(plan),
+        5 => fresh_run_case(plan, events, argument, trace),
+        6 => state_run_case(plan, events, state, argument, trace),
         7 => reader_case(events, argument),
         _ => bad_case(),
     }
@@ -203,8 +334,10 @@ fn one_case() -> bool {
     answer_case(
         word(&head, 0),
         word(&head, 1),
+        word(&head, 2),
         start_of(&plan, plan_bytes),
         start_of(&events, event_bytes),
+        start_of(&state, state_bytes),
     )
 }
 

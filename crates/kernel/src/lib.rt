@@ -1,7 +1,14 @@
 // Document 01: the entries of the kernel. Each takes every input and ends with an answer from the paper's list.
-ghost use Rattle.kernel.specs.Call.{Starts};
+ghost use mathlib.Core.Path.{_≡_};
+ghost use Prim.Native.Nat.{_+_};
+ghost use lib.Dec.{leb};
+ghost use Rattle.limits.specs.Limits.{maxTime};
+ghost use mathlib.Core.Bool.{cond};
+ghost use Rattle.answers.specs.Answers.{said, verdict};
+ghost use Rattle.kernel.specs.Call.{Starts, callVerdict, Runs};
 use answers::Answer;
 use state::State;
+use step::Clock;
 
 // What a fresh start answers.
 pub struct Started {
@@ -13,7 +20,7 @@ pub struct Started {
 pub struct Outcome {
     pub answer: Answer,
     pub ticks: u32,
-    pub records: u32,
+    pub records: usize,
     pub state: State,
 }
 
@@ -28,4 +35,114 @@ pub fn fresh_start(plan: &[u8]) -> Started
     }
     let state = state::zero_state();
     Started { answer, state }
+}
+
+// Rule 13. The sum is taken in 64 bits and cannot wrap.
+fn ticks_hold(tick: u32, asked: u32) -> bool
+    ensures { λ r. ⌜ r ≡ leb (tick + asked) maxTime ⌝ }
+{
+    let last = tick as u64 + asked as u64;
+    last <= limits::TIME as u64
+}
+
+// The number and place of a call: the plan's and the events', then 12, then 13, or 0.
+fn call_answer(plan: &[u8], events: &[u8], state: State, asked: u32) -> Answer
+    ensures { λ r. ⌜ said r ≡ callVerdict (now (plan .entry)) (now (events .entry)) state asked ⌝ }
+{
+    let answer = event_check::check(plan, events);
+    if !answers::accepted(answer) {
+        return answer;
+    }
+    if !state::fits(plan, events, state) {
+        return Answer::StateUnfit;
+    }
+    if !ticks_hold(state.tick, asked) {
+        return Answer::TooManyTicks;
+    }
+    Answer::Accepted
+}
+
+// How a run that no rule refused ends: all asked ticks run, or the trace full before that.
+fn end_answer(full: bool) -> Answer
+    ensures { λ r. ⌜ said r ≡ cond full (verdict 14 0) (verdict 0 0) ⌝ }
+{
+    if full {
+        Answer::TraceFull
+    } else {
+        Answer::Accepted
+    }
+}
+
+// A run that no rule refuses: the plan is read once, the state taken apart, the ticks run, the state put together again.
+fn run_accepted(plan: &[u8], events: &[u8], state: State, asked: u32, trace: &mut [u32]) -> Outcome
+    requires { ⌜ callVerdict (now plan) (now events) state asked .number ≡ 0 ⌝ }
+    ensures { λ r. ⌜ Runs (now (plan .entry)) (now (events .entry)) state asked (now (trace .entry)) (now (trace .exit)) r ⌝ }
+{
+    let schedule = plan_schedule::schedule_of(plan);
+    let rows = schedule.rows;
+    let count = schedule.count;
+    let states = state.tasks;
+    let mut signals = state.signals;
+    let mut tasks = apart::tasks_of(states);
+    let mut latched = apart::latched_of(states);
+    let mut held = apart::held_of(states);
+    let clock = Clock {
+        tick: state.tick,
+        place: state.place,
+        at: 0,
+    };
+    let ran = run::run_ticks(
+        plan,
+        &rows,
+        count,
+        events,
+        clock,
+        asked,
+        &mut signals,
+        &mut tasks,
+        &mut latched,
+        &mut held,
+        trace,
+    );
+    let after = ran.clock;
+    let answer = end_answer(ran.full);
+    let next = apart::together(signals, after.tick, after.place, &tasks, &latched, &held);
+    Outcome {
+        answer,
+        ticks: ran.ticks,
+        records: after.at / 5,
+        state: next,
+    }
+}
+
+// Runs so many ticks from a state, with the trace's records from its start. On 1..13 nothing is run: the state comes back as it
+// was given, and no word of the trace is touched. 14 stops before the tick whose records do not all fit.
+pub fn run(plan: &[u8], events: &[u8], state: State, asked: u32, trace: &mut [u32]) -> Outcome
+    ensures { λ r. ⌜ Runs (now (plan .entry)) (now (events .entry)) state asked (now (trace .entry)) (now (trace .exit)) r ⌝ }
+{
+    let answer = call_answer(plan, events, state, asked);
+    if !answers::accepted(answer) {
+        return Outcome {
+            answer,
+            ticks: 0,
+            records: 0,
+            state,
+        };
+    }
+    run_accepted(plan, events, state, asked, trace)
+}
+
+// The kernel's state as it goes from tick to tick.
+pub struct Kernel {
+    pub state: State,
+}
+
+impl Kernel {
+    // "The state goes in by value and the stepped state comes back": one tick.
+    pub fn tick(self, plan: &[u8], events: &[u8], trace: &mut [u32]) -> Outcome
+        ensures { λ r. ⌜ Runs (now (plan .entry)) (now (events .entry)) (self .state) 1 (now (trace .entry)) (now (trace .exit)) r ⌝ }
+    {
+        let state = self.state;
+        run(plan, events, state, 1, trace)
+    }
 }

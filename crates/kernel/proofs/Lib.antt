@@ -1,0 +1,3 @@
+pub mod Ticks
+pub mod Verdict
+pub mod Ready
