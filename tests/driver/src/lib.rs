@@ -1,5 +1,7 @@
-//! What the test programs share: the stream of cases, and running a built program on it.
+//! What the test programs share: the stream of cases, the files of a folder, and running a built program.
+use std::fs;
 use std::io::Write;
+use std::path::PathBuf;
 use std::process::{Command, Stdio};
 
 /// A case of the stream: its entry, and its bytes, header included.
@@ -22,6 +24,17 @@ pub fn split(mut stream: &[u8]) -> Vec<Case<'_>> {
         stream = rest;
     }
     cases
+}
+
+/// The files of a folder with this extension, in order of their names.
+pub fn files(folder: &str, extension: &str) -> Vec<PathBuf> {
+    let mut paths: Vec<_> = fs::read_dir(folder)
+        .expect("the folder")
+        .map(|entry| entry.expect("a file").path())
+        .filter(|path| path.extension().is_some_and(|e| e == extension))
+        .collect();
+    paths.sort();
+    paths
 }
 
 /// What a built program prints for an input, through the script that starts it.

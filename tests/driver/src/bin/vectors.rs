@@ -1,6 +1,6 @@
 //! `vectors LAUNCH FOLDER`: runs the built program `cases` on FOLDER/cases.in and compares each line with FOLDER/cases.out, and
 //! the built program `vault` on each FOLDER/program/*.in. LAUNCH is the script that starts a built program.
-use driver::{print_of, split, Tally};
+use driver::{files, print_of, split, Tally};
 use std::fs;
 
 fn main() {
@@ -22,13 +22,7 @@ fn main() {
         tally.record(&format!("case {number}, entry {entry}"), got == line, || format!("printed {got}, expected {line}"));
     }
     tally.record("after the last case", lines.next().is_none(), || "more lines than cases".to_string());
-    let mut names: Vec<_> = fs::read_dir(format!("{folder}/program"))
-        .expect("program")
-        .map(|entry| entry.expect("a file").path())
-        .filter(|path| path.extension().is_some_and(|e| e == "in"))
-        .collect();
-    names.sort();
-    for path in names {
+    for path in files(&format!("{folder}/program"), "in") {
         let expected = fs::read(path.with_extension("out")).expect("the output");
         let printed = print_of(launch, "vault", &fs::read(&path).expect("the input"));
         let name = path.file_name().expect("a name").to_string_lossy().into_owned();
