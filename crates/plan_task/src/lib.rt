@@ -1,16 +1,20 @@
 // Document 01, 'The plan file': the rules 4, 5 and 6 of one task, read from the part of the file that is its body.
 ghost use mathlib.Core.Path.{_≡_};
-ghost use Prim.Native.Nat.{_+_, _*_, _-_, _≤_, _<_};
-ghost use mathlib.Core.Bool.{cond, _||_, not};
+ghost use Prim.Native.Nat.{_+_, _*_, _<_};
+ghost use mathlib.Core.Bool.{cond, _||_};
 ghost use lib.Dec.{eqb, ltb};
 ghost use Rattle.words.specs.Words.{wordsOf};
-ghost use Rattle.lists.specs.Lists.{tab, all};
+ghost use Rattle.lists.specs.Lists.{all};
 ghost use Rattle.answers.specs.Answers.{said, firstBroken};
 ghost use Rattle.plan_task.specs.Places.{far};
+ghost use Rattle.plan_task.specs.Orders.{slots, slotOf};
 ghost use Rattle.plan.specs.File.{taskOf, values, transitionAt, transitionsFrom, actionAt, actionsFrom, inputsAt};
-ghost use Rattle.plan.specs.Rules.{shapeRule, timingRule, supervisorRule, controllerRule, transitionRule, sameOrder, transitionsRule, actionRule, lowest, bodyRule, oneTask};
+ghost use Rattle.plan.specs.Rules.{shapeRule, timingRule, supervisorRule, controllerRule, transitionRule, transitionsRule, actionRule, lowest, bodyRule, oneTask};
 use answers::Answer;
 use words::word;
+
+// A word of marks for each state, numbered as the states are, from 1 on; word 0 is no state's.
+const SLOTS: usize = limits::STATES as usize + 1;
 
 // Rule 4. The counts are any 32-bit numbers: their sum is taken in 64 bits and cannot wrap.
 fn shape_holds(part: &[u8]) -> bool
@@ -96,36 +100,36 @@ fn transition_holds(part: &[u8], at: usize, inputs: u32) -> bool
         & ((1 <= order) & (order <= limits::ORDER))
 }
 
-// Rule 6: whether transition j has an order of its own among those after it with the same 'from'.
-fn order_differs(part: &[u8], first: usize, j: u32, count: u32) -> bool
-    requires { ⌜ (first < far) × (j < count) ⌝ }
-    ensures { λ r. ⌜ r ≡ all (λ y. not (sameOrder (transitionAt (wordsOf (now (part .entry))) (first + j * 4)) y)) (tab (λ i. transitionAt (wordsOf (now (part .entry))) (first + i * 4)) (j + 1) (count - (j + 1))) ⌝ }
+// The word of marks for a transition's 'from': its own where it is a state. Any other number refuses its transition, so where its mark goes does not matter, and word 0 is no state's.
+fn slot_of(from: u32) -> usize
+    ensures { λ r. ⌜ r ≡ slotOf from ⌝ }
+    ensures below { λ r. ⌜ r < slots ⌝ }
 {
-    let at = first + j as usize * 4;
-    let from = word(part, at);
-    let order = word(part, at + 2);
-    let mut good = true;
-    let mut k = j + 1;
-    while k < count {
-        let other = first + k as usize * 4;
-        let same = (from == word(part, other)) & (order == word(part, other + 2));
-        good = good & !same;
-        k += 1;
+    if from <= limits::STATES {
+        from as usize
+    } else {
+        0
     }
-    good
 }
 
-// Rule 6, the transitions.
+// Rule 6, the transitions. Orders in range are below 64, so that one word holds the marks of all orders of a state, and one pass finds an order that stands twice.
 fn transitions_hold(part: &[u8], first: usize, count: u32, inputs: u32) -> bool
     requires { ⌜ first < far ⌝ }
     ensures { λ r. ⌜ r ≡ transitionsRule inputs (transitionsFrom (wordsOf (now (part .entry))) first count) ⌝ }
 {
+    let mut seen = [0u64; SLOTS];
     let mut good = true;
     let mut j: u32 = 0;
     while j < count {
-        let one = transition_holds(part, first + j as usize * 4, inputs);
-        let others = order_differs(part, first, j, count);
-        good = good & (one & others);
+        let at = first + j as usize * 4;
+        let one = transition_holds(part, at, inputs);
+        let slot = slot_of(word(part, at));
+        let order = word(part, at + 2);
+        let before = seen[slot];
+        let old = marks::is_marked(before, order);
+        let after = marks::with_mark(before, order);
+        seen[slot] = after;
+        good = good & (one & !old);
         j += 1;
     }
     good

@@ -19,7 +19,7 @@ loop-holds : tie.Need-loop-holds Inv-loop μ-loop
 loop-holds c = (search needs, fill-none _ _ _ _)
 
 loop-again : tie.Need-loop-again Inv-loop μ-loop
-loop-again c = (search needs, rw (c .task-in2 .ensures) (fill-more _ _ _ _ _ (c .before .loop-test .taken) (c .before .before .loop .inv .1)))
+loop-again c = (search needs, rw (c .task-in .ensures) (fill-more _ _ _ _ _ (c .before .loop-test .taken) (c .before .before .loop .inv .1)))
 
 returns : tie.Need-returns Inv-loop μ-loop
 returns c = rw (fill-done _ _ _ _ _ (c .loop-test .left) (c .before .loop .inv .1))
@@ -30,7 +30,6 @@ together-spec =
     (tie.spec
     Inv-loop
     μ-loop
-    (λ c κs. search needs)
     loop-holds
     (λ c κs. search needs)
     (λ c. search needs)

@@ -7,27 +7,28 @@ use Rattle.words.specs.Words.{wordsOf}
 use Rattle.lists.specs.Lists.{tab}
 use Rattle.plan.specs.File.{transitionAt, transitionsFrom}
 use Rattle.plan.specs.Rules.{transitionsRule}
-use Rattle.plan_task.proofs.Laws.{transitions-more, transitions-done}
+use Rattle.plan_task.specs.Orders.{newOrders}
+use Rattle.plan_task.proofs.Orders.{orders-are, orders-more, orders-done}
 use Rattle.plan_task.proofs.transitions_hold.Statement.{statement}
 use Rattle.plan_task.proofs.transitions_hold.Tie as tie
 
 abbrev Inv-loop : tie.InvT-loop
-Inv-loop part first count inputs good₀ j₀ good j =
+Inv-loop part first count inputs seen₀ good₀ j₀ seen good j =
     (j ≤ count)
     × (transitionsRule inputs (transitionsFrom (wordsOf part) first count)
-    ≡ (good && transitionsRule inputs (tab (λ i. transitionAt (wordsOf part) (first + i * 4)) j (count - j))))
+    ≡ (good && newOrders inputs seen (tab (λ i. transitionAt (wordsOf part) (first + i * 4)) j (count - j))))
 
 abbrev μ-loop : tie.MeasureT-loop
-μ-loop part first count inputs good₀ j₀ good j = count - j
+μ-loop part first count inputs seen₀ good₀ j₀ seen good j = count - j
 
 loop-holds : tie.Need-loop-holds Inv-loop μ-loop
-loop-holds c = (search needs, rw sub-zero)
+loop-holds c = (search needs, rw (sub-zero, orders-are))
 
 loop-again : tie.Need-loop-again Inv-loop μ-loop
-loop-again c = (search needs, rw (c .before .before .before .loop .inv .1, transitions-more _ _ _ _ _ (c .before .before .loop-test .taken), c .before .transition-holds .ensures, c .order-differs .ensures))
+loop-again c = (search needs, rw (c .before .before .before .before .before .before .before .loop .inv .1, orders-more _ _ _ _ _ _ (c .before .before .before .before .before .before .loop-test .taken), c .with-mark .ensures, c .before .is-marked .ensures, c .before .before .before .slot-of .ensures .0, c .before .before .before .before .word .ensures, c .before .before .word2 .ensures, c .before .before .before .before .before .transition-holds .ensures))
 
 returns : tie.Need-returns Inv-loop μ-loop
-returns c = rw (c .before .loop .inv .1, transitions-done _ _ _ _ _ (c .loop-test .left))
+returns c = rw (c .before .loop .inv .1, orders-done _ _ _ _ _ _ (c .loop-test .left))
 
 pub transitions-hold-spec : {M : Type 1} → statement M
 transitions-hold-spec =
@@ -41,6 +42,15 @@ transitions-hold-spec =
     (λ c. search needs)
     (λ c κs. search needs)
     (λ c κs. search needs)
+    (λ c κs. search needs)
+    (λ c. search needs)
+    (λ c κs. search needs)
+    (λ c. search needs)
+    (λ c. search needs)
+    (λ c κs. search needs)
+    (λ c κs. search needs)
+    (λ c. search needs)
+    (λ c. search needs)
     (λ c. search needs)
     (λ c. search needs)
     loop-again
