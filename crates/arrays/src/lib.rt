@@ -5,6 +5,15 @@ ghost use Prim.Native.Nat.{_+_, _*_};
 ghost use lib.ListN.{getD, set};
 ghost use Rattle.arrays.specs.Arrays.{field, rowField};
 
+// The statuses as numbers.
+pub const READY: u32 = 0;
+
+pub const ACTIVE: u32 = 1;
+
+pub const FINISHED: u32 = 2;
+
+pub const ERROR: u32 = 3;
+
 // Value i, and 0 where there is none.
 pub fn get(values: &[u32], i: usize) -> u32
     ensures { λ r. ⌜ r ≡ getD (now (values .entry)) i 0 ⌝ }

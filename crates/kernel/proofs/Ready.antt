@@ -22,8 +22,9 @@ use Rattle.state.specs.declared.State.{State}
 use Rattle.state.proofs.Laws.{events-parted}
 use Rattle.state.proofs.Fitting.{fits-exactly}
 use Rattle.tick.specs.Tick.{tick}
+use Rattle.step.specs.Step.{Sizes}
 use Rattle.step.specs.declared.Clock.{Clock}
-use Rattle.run.specs.Run.{Sizes, Asked, runFlat}
+use Rattle.run.specs.Run.{Asked, runFlat}
 use Rattle.whole.specs.Whole.{apart}
 use Rattle.whole.proofs.Apart.{apart-sized, whole-apart}
 use Rattle.kernel.specs.Call.{callVerdict, call, runRoom}

@@ -1,77 +1,150 @@
-// Document 01, a run of ticks over the lent arrays: each is run only if all its records fit in the trace.
+// Document 01, a run of ticks over the lent arrays: each is run only if all its records fit in the trace, and ticks in which
+// nothing can happen are passed over.
 ghost use mathlib.Core.Path.{_≡_};
-ghost use Prim.Native.Nat.{_+_, _*_, _-_, _<_, _≤_, _^_};
+ghost use mathlib.Core.Bool.{false, cond, not, _&&_, _||_};
+ghost use mathlib.Core.List.{List};
+ghost use Prim.Native.Nat.{ℕ, suc, _+_, _*_, _<_, _≤_, _^_};
+ghost use lib.Dec.{ltb};
 ghost use lib.ListN.{length};
 ghost use Rattle.events.specs.Events.{eventCount};
-ghost use Rattle.step.specs.Step.{given, Ready, stepFlat};
-ghost use Rattle.run.specs.Run.{Sizes, Asked, Ends, runFlat};
-use arrays::get;
+ghost use Rattle.step.specs.Step.{given, Sizes, Ready};
+ghost use Rattle.room.specs.Room.{rowsMost};
+ghost use Rattle.run.specs.Run.{Asked, Ends, Turned, runFlat};
 use step::Clock;
-
-const SIGNALS: usize = limits::SIGNALS as usize;
-
-const FIELDS: usize = limits::TASKS as usize * 4;
-
-const PORTS: usize = limits::TASKS as usize * limits::PORTS as usize;
-
-// One array's values to another of the same length.
-fn copy(from: &[u32], to: &mut [u32])
-    requires { ⌜ length (now from) ≡ length (now to) ⌝ }
-    ensures { λ _. ⌜ now (to .exit) ≡ now (from .entry) ⌝ }
-{
-    let mut i: usize = 0;
-    while i < to.len() {
-        to[i] = get(from, i);
-        i += 1;
-    }
-}
-
-// The word of the trace at which the records of the next tick would end: the tick is run on copies, with no trace.
-fn records_end(
-    plan: &[u8],
-    rows: &[u32],
-    count: u32,
-    events: &[u8],
-    clock: Clock,
-    signals: &[u32],
-    tasks: &[u32],
-    latched: &[u32],
-    held: &[u32],
-) -> usize
-    requires { ⌜ Ready count (eventCount (now events)) clock ⌝ }
-    requires { ⌜ Sizes (record { signals = now signals; tasks = now tasks; latched = now latched; held = now held }) ⌝ }
-    ensures { λ r. ⌜ r ≡ clock .at + 5 * length (stepFlat (given (now (plan .entry)) (now (rows .entry)) count (now (events .entry))) (clock .tick) (clock .place)
-        (record { signals = now (signals .entry); tasks = now (tasks .entry); latched = now (latched .entry); held = now (held .entry) }) .entries) ⌝ }
-{
-    let mut signals_too = [0u32; SIGNALS];
-    let mut tasks_too = [0u32; FIELDS];
-    let mut latched_too = [0u32; PORTS];
-    let mut held_too = [0u32; PORTS];
-    let mut none = [0u32; 1];
-    copy(signals, &mut signals_too);
-    copy(tasks, &mut tasks_too);
-    copy(latched, &mut latched_too);
-    copy(held, &mut held_too);
-    let after = step::step(
-        plan,
-        rows,
-        count,
-        events,
-        clock,
-        &mut signals_too,
-        &mut tasks_too,
-        &mut latched_too,
-        &mut held_too,
-        &mut none,
-    );
-    after.at
-}
 
 // How a run of ticks ended: the clock after it, the ticks run, and whether the trace was too full for the next one.
 pub struct Ran {
     pub clock: Clock,
     pub ticks: u32,
     pub full: bool,
+}
+
+// A tick is run if all its records fit.
+fn tick_once(
+    plan: &[u8],
+    rows: &[u32],
+    count: u32,
+    events: &[u8],
+    clock: Clock,
+    most: usize,
+    signals: &mut [u32],
+    tasks: &mut [u32],
+    latched: &mut [u32],
+    held: &mut [u32],
+    trace: &mut [u32],
+) -> Ran
+    requires { ⌜ Ready count (eventCount (now events)) clock ⌝ }
+    requires { ⌜ Sizes (record { signals = now signals; tasks = now tasks; latched = now latched; held = now held }) ⌝ }
+    requires { ⌜ (most ≡ 2 * rowsMost (now rows) count 0) × (most ≤ 2 ^ 38) ⌝ }
+    requires { ⌜ clock .at ≤ length (now trace) ⌝ }
+    ensures { λ r. ⌜ ((left : ℕ) → Turned (given (now (plan .entry)) (now (rows .entry)) count (now (events .entry))) (suc left) clock
+        (record { signals = now (signals .entry); tasks = now (tasks .entry); latched = now (latched .entry); held = now (held .entry) }) (now (trace .entry)) r
+        (record { signals = now (signals .exit); tasks = now (tasks .exit); latched = now (latched .exit); held = now (held .exit) }) (now (trace .exit))) ⌝ }
+    ensures moves { λ r. ⌜ r .ticks ≡ cond (r .full) 0 1 ⌝ }
+{
+    let last = step_releases::end_of(events, clock.tick, clock.place, (events.len() / 16) as u32);
+    let fits = room::tick_fits(rows, count, events, clock, last, most, tasks, trace.len());
+    if !fits {
+        return Ran {
+            clock,
+            ticks: 0,
+            full: true,
+        };
+    }
+    let next = step::step(
+        plan,
+        rows,
+        count,
+        events,
+        clock,
+        last,
+        signals,
+        tasks,
+        latched,
+        held,
+        trace,
+    );
+    Ran {
+        clock: next,
+        ticks: 1,
+        full: false,
+    }
+}
+
+// As many ticks as can be are passed over, at most `left`; it may be none.
+fn rest(rows: &[u32], count: u32, events: &[u8], clock: Clock, left: u32, tasks: &mut [u32]) -> Ran
+    requires { ⌜ (clock .place ≤ eventCount (now events)) × (clock .tick + left < 2 ^ 31) ⌝ }
+    ensures { λ r. ⌜ ((plan signals latched held trace : List ℕ) → clock .at ≤ length trace → Turned (given plan (now (rows .entry)) count (now (events .entry))) left clock
+        (record { signals = signals; tasks = now (tasks .entry); latched = latched; held = held }) trace r
+        (record { signals = signals; tasks = now (tasks .exit); latched = latched; held = held }) trace) ⌝ }
+{
+    let ticks = quiet::pass(rows, count, events, clock.place, clock.tick, left, tasks);
+    Ran {
+        clock: Clock {
+            tick: clock.tick + ticks,
+            place: clock.place,
+            at: clock.at,
+        },
+        ticks,
+        full: false,
+    }
+}
+
+// One turn of a run: a look for ticks to pass over, or a tick.
+fn turn(
+    look: bool,
+    plan: &[u8],
+    rows: &[u32],
+    count: u32,
+    events: &[u8],
+    clock: Clock,
+    left: u32,
+    most: usize,
+    signals: &mut [u32],
+    tasks: &mut [u32],
+    latched: &mut [u32],
+    held: &mut [u32],
+    trace: &mut [u32],
+) -> Ran
+    requires { ⌜ Ready count (eventCount (now events)) clock ⌝ }
+    requires { ⌜ Sizes (record { signals = now signals; tasks = now tasks; latched = now latched; held = now held }) ⌝ }
+    requires { ⌜ (most ≡ 2 * rowsMost (now rows) count 0) × (most ≤ 2 ^ 38) ⌝ }
+    requires { ⌜ (clock .at ≤ length (now trace)) × (0 < left) × (clock .tick + left < 2 ^ 31) ⌝ }
+    ensures { λ r. ⌜ Turned (given (now (plan .entry)) (now (rows .entry)) count (now (events .entry))) left clock
+        (record { signals = now (signals .entry); tasks = now (tasks .entry); latched = now (latched .entry); held = now (held .entry) }) (now (trace .entry)) r
+        (record { signals = now (signals .exit); tasks = now (tasks .exit); latched = now (latched .exit); held = now (held .exit) }) (now (trace .exit)) ⌝ }
+    ensures moves { λ r. ⌜ (look ≡ false → r .full ≡ false → 0 < r .ticks) ⌝ }
+{
+    if look {
+        return rest(rows, count, events, clock, left, tasks);
+    }
+    tick_once(
+        plan,
+        rows,
+        count,
+        events,
+        clock,
+        most,
+        signals,
+        tasks,
+        latched,
+        held,
+        trace,
+    )
+}
+
+// Whether the last look found ticks to pass over.
+fn keen_after(look: bool, keen: bool, ticks: u32) -> bool
+    ensures { λ r. ⌜ r ≡ cond look (ltb 0 ticks) keen ⌝ }
+{
+    if look { 0 < ticks } else { keen }
+}
+
+// A look costs about what a tick does: it is taken after a tick without records, and after every tick while looks find something.
+fn looks_next(look: bool, keen: bool, same: bool) -> bool
+    ensures { λ r. ⌜ r ≡ (not look && (keen || same)) ⌝ }
+{
+    !look & (keen | same)
 }
 
 // So many ticks, one after the other, up to the first whose records do not all fit.
@@ -94,41 +167,40 @@ pub fn run_ticks(
         (runFlat (given (now (plan .entry)) (now (rows .entry)) count (now (events .entry))) (length (now (trace .entry))) asked (clock .tick) (clock .place)
         (record { signals = now (signals .entry); tasks = now (tasks .entry); latched = now (latched .entry); held = now (held .entry) })) ⌝ }
 {
+    let most = room::most_entries(rows, count);
     let mut now = clock;
     let mut done: u32 = 0;
+    let mut look = false;
+    let mut keen = false;
     while done < asked {
-        let end = records_end(
+        let one = turn(
+            look,
             plan,
             rows,
             count,
             events,
             now,
-            signals,
-            tasks,
-            latched,
-            held,
-        );
-        if trace.len() < end {
-            return Ran {
-                clock: now,
-                ticks: done,
-                full: true,
-            };
-        }
-        let next = step::step(
-            plan,
-            rows,
-            count,
-            events,
-            now,
+            asked - done,
+            most,
             signals,
             tasks,
             latched,
             held,
             trace,
         );
+        let next = one.clock;
+        let total = done + one.ticks;
+        if one.full {
+            return Ran {
+                clock: next,
+                ticks: total,
+                full: true,
+            };
+        }
+        keen = keen_after(look, keen, one.ticks);
+        look = looks_next(look, keen, next.at == now.at);
         now = next;
-        done += 1;
+        done = total;
     }
     Ran {
         clock: now,

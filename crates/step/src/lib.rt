@@ -1,10 +1,8 @@
 // Document 01, 'One tick', over the lent arrays: steps 0, 1, 2 and 3, one after the other.
 ghost use mathlib.Core.Path.{_≡_};
-ghost use Prim.Native.Nat.{_+_, _-_, _<_, _≤_, _^_};
-ghost use Rattle.limits.specs.Limits.{maxTasks};
-ghost use Rattle.words.specs.Words.{wordsOf};
+ghost use Prim.Native.Nat.{_+_, _≤_, _^_};
 ghost use Rattle.events.specs.Events.{eventCount};
-ghost use Rattle.step.specs.Step.{given, Ready, Stepped};
+ghost use Rattle.step.specs.Step.{given, placeAfter, Ready, Stepped};
 use step_releases::Instant;
 
 // What a run keeps beside the arrays: the next tick's number, the event place, and the word of the trace at which the next
@@ -15,13 +13,15 @@ pub struct Clock {
     pub at: usize,
 }
 
-// One tick.
+// One tick, whose events stand from the clock's place up to `last`: the caller has looked for that place to know how many they
+// are.
 pub fn step(
     plan: &[u8],
     rows: &[u32],
     count: u32,
     events: &[u8],
     clock: Clock,
+    last: u32,
     signals: &mut [u32],
     tasks: &mut [u32],
     latched: &mut [u32],
@@ -29,6 +29,7 @@ pub fn step(
     trace: &mut [u32],
 ) -> Clock
     requires { ⌜ Ready count (eventCount (now events)) clock ⌝ }
+    requires { ⌜ last ≡ placeAfter (given (now plan) (now rows) count (now events)) (clock .tick) (clock .place) ⌝ }
     ensures { λ r. ⌜ Stepped clock r (record { signals = now (signals .exit); tasks = now (tasks .exit); latched = now (latched .exit); held = now (held .exit) }) (now (trace .entry)) (now (trace .exit))
         (given (now (plan .entry)) (now (rows .entry)) count (now (events .entry)))
         (record { signals = now (signals .entry); tasks = now (tasks .entry); latched = now (latched .entry); held = now (held .entry) }) ⌝ }
@@ -36,7 +37,6 @@ pub fn step(
 {
     let t = clock.tick;
     let first = clock.place;
-    let last = step_releases::end_of(events, t, first, (events.len() / 16) as u32);
     let moment = Instant { t, first, last };
     step_releases::set_signals(events, first, last, signals);
     let written = step_deadlines::deadlines(rows, count, t, held, signals, tasks, trace, clock.at);

@@ -6,7 +6,7 @@ use mathlib.Core.List.{List, [], _∷_}
 use native.Mathlib.Omega.{arith}
 use lib.ListN.{set, replicate}
 use lib.Dec.{eqb, eqb·suc-zero}
-use borrow.Author.Tests.{eq-eqb, ne-eqb}
+use borrow.Author.Tests.{eq-eqb, ne-eqb, eqb-true, eqb-false}
 use Rattle.lists.specs.Lists.{tab}
 use Rattle.lists.proofs.Laws.{more, done, tab-more, tab-done}
 use Rattle.events.specs.Events.{Event, eventOf}
@@ -121,3 +121,25 @@ module _ (t : ℕ) (rows : List ℕ) (now : List Event) (j : ℕ) (tasks : List 
       go zero f d = absurd (f refl)
       go (suc s) f true = periodic-busy s true (eqb (rowField rows j 2) 0)
       go (suc s) f false = periodic-busy s false (eqb (rowField rows j 2) 0)
+
+  -- the same where it is asked
+  pub call-due : (status ≡ 0 → ⊥) → (rowField rows j 1 ≡ 0 → ⊥) → (asked ≡ 0 → ⊥)
+      → callOfRow t rows now j tasks ≡ cond (eqb status 1 && eqb (rowField rows j 2) 0) overrun (ignored 0)
+  call-due n p a = call-periodic n p ∙ go (eqb status 1) (eqb asked 0) (eqb (rowField rows j 2) 0) (ne-eqb asked 0 a)
+    where
+      go : (x y z : Bool) → y ≡ false → cond (x && not y && z) overrun (ignored 0) ≡ cond (x && z) overrun (ignored 0)
+      go true y z e = rw e
+      go false y z e = refl
+
+  -- not asked: nothing, whatever its status
+  pub call-none : asked ≡ 0 → callOfRow t rows now j tasks ≡ ignored 0
+  call-none a = go (eqb status 0) refl (eqb (rowField rows j 1) 0) refl
+    where
+      none : (x z : Bool) → cond (x && false && z) overrun (ignored 0) ≡ ignored 0
+      none true z = refl
+      none false z = refl
+
+      go : (x : Bool) → eqb status 0 ≡ x → (y : Bool) → eqb (rowField rows j 1) 0 ≡ y → callOfRow t rows now j tasks ≡ ignored 0
+      go true e y f = call-ready (eqb-true status 0 e) ∙ rw (eq-eqb asked 0 a)
+      go false e true f = call-events (eqb-false status 0 e) (eqb-true (rowField rows j 1) 0 f) ∙ ap ignored a
+      go false e false f = call-periodic (eqb-false status 0 e) (eqb-false (rowField rows j 1) 0 f) ∙ rw (eq-eqb asked 0 a) (none (eqb status 1) (eqb (rowField rows j 2) 0))

@@ -204,10 +204,10 @@ fn grant_row(
     let deadline = row_field(rows, row, 2);
     let status = task_field(tasks, task, 0);
     let asked = asked_of(rows, row, events, moment);
+    if asked == 0 {
+        return from;
+    }
     if status == 0 {
-        if asked == 0 {
-            return from;
-        }
         start_row(rows, row, t, signals, tasks, latched);
         trace::put(
             trace,
@@ -225,7 +225,7 @@ fn grant_row(
     if period == 0 {
         return ignore(t, task, asked, trace, from);
     }
-    if (status == 1) & (asked != 0) & (deadline == 0) {
+    if (status == 1) & (deadline == 0) {
         trace::put(
             trace,
             from,

@@ -8,32 +8,14 @@ use native.Mathlib.Nat.{zero-add}
 use lib.ListN.{set, replicate}
 use lib.Seq.{set-at}
 use lib.Dec.{eqb}
-use borrow.Author.Tests.{ne-eqb}
-use Rattle.limits.specs.Limits.{maxTasks}
 use Rattle.lists.specs.Lists.{tab}
 use Rattle.lists.proofs.Laws.{more, tab-last, length-tab}
-use Rattle.state.specs.declared.Status.the-variants.{ERROR}
 use Rattle.urgent.specs.declared.TaskRecord.{TaskRecord}
-use Rattle.urgent.specs.Urgent.{noRank, activeOf, keyOf, leastRank}
+use Rattle.urgent.specs.Urgent.{noRank, keyOf, leastRank}
 use Rattle.urgent.proofs.Laws.{least-bound}
 use Rattle.arrays.specs.Arrays.{active, field}
-use Rattle.steps.specs.Flat.{taskOfRow, statusOf, firstActive}
+use Rattle.steps.specs.Flat.{taskOfRow, firstActive}
 use Rattle.step_running.specs.Records.{recordOf, idle}
-
--- ---- statuses as numbers
-pub other-status : (n : ℕ) → 2 < n → statusOf n ≡ ERROR
-unfolding statusOf
-other-status zero h = absurd (omega arith)
-other-status (suc zero) h = absurd (omega arith)
-other-status (suc (suc zero)) h = absurd (omega arith)
-other-status (suc (suc (suc n))) h = refl
-
-active-number : (n : ℕ) → activeOf (statusOf n) ≡ eqb n active
-unfolding statusOf
-active-number zero = refl
-active-number (suc zero) = refl
-active-number (suc (suc zero)) = refl
-active-number (suc (suc (suc n))) = sym (ne-eqb (suc (suc (suc n))) active (λ e. absurd (omega arith)))
 
 -- ---- an array that is filled place by place: k places of n hold what a rule says, the others x
 module _ {A : Type 0} (f : ℕ → A) (x : A) (n k : ℕ) where
@@ -67,7 +49,7 @@ module _ (rows tasks : List ℕ) where
       go true h = omega arith
       go false h = omega arith
 
-  key-is : (j : ℕ) (b : Bool) → activeOf (statusOf (field tasks (taskOfRow rows j) 0)) ≡ b → keyOf (recordOf rows tasks j) ≡ cond b j noRank
+  key-is : (j : ℕ) (b : Bool) → eqb (field tasks (taskOfRow rows j) 0) active ≡ b → keyOf (recordOf rows tasks j) ≡ cond b j noRank
   unfolding keyOf recordOf
   key-is j b e = rw e
 
@@ -75,23 +57,24 @@ module _ (rows tasks : List ℕ) where
   unfolding leastRank firstActive tab
   first-is zero j h = omega arith
   first-is (suc n) j h =
-      go (eqb (field tasks (taskOfRow rows j) 0) active) (active-number (field tasks (taskOfRow rows j) 0)) (first-is n (j + 1) (omega arith)) (first-after n (j + 1))
+      go (eqb (field tasks (taskOfRow rows j) 0) active) refl (first-is n (j + 1) (omega arith)) (first-after n (j + 1))
     where
-      go : (b : Bool) → activeOf (statusOf (field tasks (taskOfRow rows j) 0)) ≡ b
+      go : (b : Bool) → eqb (field tasks (taskOfRow rows j) 0) active ≡ b
           → min (leastRank (tab (recordOf rows tasks) (j + 1) n)) (j + 1 + n) ≡ firstActive rows tasks n (j + 1)
           → j + 1 ≤ firstActive rows tasks n (j + 1)
           → min (min (keyOf (recordOf rows tasks j)) (leastRank (tab (recordOf rows tasks) (j + 1) n))) (j + suc n) ≡ cond b j (firstActive rows tasks n (j + 1))
       go true e i l = let k = key-is j true e in omega arith
       go false e i l = let k = key-is j false e in omega arith
 
-  pub chosen : (count j least : ℕ) (records : List TaskRecord) → count ≤ maxTasks → j ≤ count → count ≤ j
-      → records ≡ filled (recordOf rows tasks) idle maxTasks j → least ≡ leastRank records
+  -- of an array of any size
+  pub chosen : (size count j least : ℕ) (records : List TaskRecord) → count ≤ size → count ≤ noRank → j ≤ count → count ≤ j
+      → records ≡ filled (recordOf rows tasks) idle size j → least ≡ leastRank records
       → min least count ≡ firstActive rows tasks count 0
-  chosen count j least records few most all are is =
+  chosen size count j least records few small most all are is =
       let e : j ≡ count = omega arith in
-      let l : least ≡ min (leastRank (tab (recordOf rows tasks) 0 count)) (leastRank (replicate (maxTasks - count) idle)) =
-      rw (is, are, e) (least-append (tab (recordOf rows tasks) 0 count) (replicate (maxTasks - count) idle)) in
-      let i = least-idle (maxTasks - count) in
+      let l : least ≡ min (leastRank (tab (recordOf rows tasks) 0 count)) (leastRank (replicate (size - count) idle)) =
+      rw (is, are, e) (least-append (tab (recordOf rows tasks) 0 count) (replicate (size - count) idle)) in
+      let i = least-idle (size - count) in
       let b = least-bound (tab (recordOf rows tasks) 0 count) in
       let f = first-is count 0 (omega arith) in
       omega arith

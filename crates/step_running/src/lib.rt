@@ -5,14 +5,14 @@ ghost use Rattle.limits.specs.Limits.{maxTasks};
 ghost use Rattle.words.specs.Words.{wordsOf};
 ghost use Rattle.plan.specs.File.{taskOf};
 ghost use Rattle.body.specs.Body.{body};
+ghost use Rattle.urgent.specs.Urgent.{fewTasks};
 ghost use Rattle.arrays.specs.Arrays.{Does};
-ghost use Rattle.steps.specs.Flat.{portsOf, statusOf, work, firstActive, runsFlat};
+ghost use Rattle.steps.specs.Flat.{portsOf, work, firstActive, runsFlat};
 ghost use Rattle.step_running.specs.Finish.{Ran, Finished};
 ghost use Rattle.step_running.specs.Records.{recordOf};
 use arrays::put;
 use arrays::row_field;
 use arrays::task_field;
-use state::Status;
 use step_deadlines::reset_task;
 use step_deadlines::write_row;
 use urgent::TaskRecord;
@@ -21,7 +21,15 @@ const PORTS: usize = limits::PORTS as usize;
 
 const TASKS: usize = limits::TASKS as usize;
 
+const FEW: usize = urgent::FEW as usize;
+
 fn smaller(a: usize, b: usize) -> usize
+    ensures { λ r. ⌜ r ≡ min a b ⌝ }
+{
+    if a <= b { a } else { b }
+}
+
+fn smallest(a: u32, b: u32) -> u32
     ensures { λ r. ⌜ r ≡ min a b ⌝ }
 {
     if a <= b { a } else { b }
@@ -66,7 +74,7 @@ fn one_less(n: u32) -> u32
 }
 
 // The task of a row runs for a tick; the word at which its records end.
-pub fn work_row(
+fn work_row(
     plan: &[u8],
     rows: &[u32],
     row: u32,
@@ -99,42 +107,42 @@ pub fn work_row(
     at
 }
 
-fn status_of(number: u32) -> Status
-    ensures { λ r. ⌜ r ≡ statusOf number ⌝ }
-{
-    match number {
-        0 => Status::READY,
-        1 => Status::ACTIVE,
-        2 => Status::FINISHED,
-        _ => Status::ERROR,
-    }
-}
-
 // The record of the task of a row: rows stand in order of priority, so the row is its rank.
 fn record_of(rows: &[u32], row: u32, tasks: &[u32]) -> TaskRecord
     ensures { λ r. ⌜ r ≡ recordOf (now (rows .entry)) (now (tasks .entry)) row ⌝ }
 {
     let task = row_field(rows, row, 0);
-    let status = status_of(task_field(tasks, task, 0));
     TaskRecord {
-        status,
-        remaining: task_field(tasks, task, 1),
-        release: task_field(tasks, task, 2),
-        machine: task_field(tasks, task, 3),
+        status: task_field(tasks, task, 0),
         rank: row,
     }
 }
 
-// The first of the rows whose task is ACTIVE, and the row past them where there is none.
-pub fn running_row(rows: &[u32], count: u32, tasks: &[u32]) -> u32
-    requires { ⌜ count ≤ maxTasks ⌝ }
-    ensures { λ r. ⌜ r ≡ firstActive (now (rows .entry)) (now (tasks .entry)) count 0 ⌝ }
+// The least rank of the records of a few rows that are ACTIVE.
+fn least_of_few(rows: &[u32], count: u32, tasks: &[u32]) -> u32
+    requires { ⌜ count ≤ fewTasks ⌝ }
+    ensures { λ r. ⌜ min r count ≡ firstActive (now (rows .entry)) (now (tasks .entry)) count 0 ⌝ }
 {
     let idle = TaskRecord {
-        status: Status::READY,
-        remaining: 0,
-        release: 0,
-        machine: 0,
+        status: arrays::READY,
+        rank: 0,
+    };
+    let mut records = [idle; FEW];
+    let mut j: u32 = 0;
+    while j < count {
+        records[j as usize] = record_of(rows, j, tasks);
+        j += 1;
+    }
+    urgent::urgent_of_few(records)
+}
+
+// The same of up to all rows.
+fn least_of_all(rows: &[u32], count: u32, tasks: &[u32]) -> u32
+    requires { ⌜ count ≤ maxTasks ⌝ }
+    ensures { λ r. ⌜ min r count ≡ firstActive (now (rows .entry)) (now (tasks .entry)) count 0 ⌝ }
+{
+    let idle = TaskRecord {
+        status: arrays::READY,
         rank: 0,
     };
     let mut records = [idle; TASKS];
@@ -143,8 +151,18 @@ pub fn running_row(rows: &[u32], count: u32, tasks: &[u32]) -> u32
         records[j as usize] = record_of(rows, j, tasks);
         j += 1;
     }
-    let least = urgent::urgent_of(records);
-    if least < count { least } else { count }
+    urgent::urgent_of(records)
+}
+
+// The first of the rows whose task is ACTIVE, and the row past them where there is none.
+fn running_row(rows: &[u32], count: u32, tasks: &[u32]) -> u32
+    requires { ⌜ count ≤ maxTasks ⌝ }
+    ensures { λ r. ⌜ r ≡ firstActive (now (rows .entry)) (now (tasks .entry)) count 0 ⌝ }
+{
+    if count <= urgent::FEW {
+        return smallest(least_of_few(rows, count, tasks), count);
+    }
+    smallest(least_of_all(rows, count, tasks), count)
 }
 
 // Step 3: the most urgent ACTIVE task runs for a tick, where there is one; the word at which its records end.

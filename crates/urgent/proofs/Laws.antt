@@ -6,13 +6,12 @@ use mathlib.Core.Path.{_≡_, refl}
 use mathlib.Core.List.{List, [], _∷_}
 use lib.ListN.{length, getD, drop}
 use lib.Seq.{drop-cons, drop-length}
-use Rattle.state.specs.declared.Status.the-variants.{READY}
 use Rattle.urgent.specs.declared.TaskRecord.{TaskRecord}
 use Rattle.urgent.specs.Urgent.{noRank, keyOf, leastRank}
 
 -- a record that stands past the end of a list: no contract depends on which it is
 abbrev pub noRecord : TaskRecord
-noRecord = record { status = READY; remaining = 0; release = 0; machine = 0; rank = 0 }
+noRecord = record { status = 0; rank = 0 }
 
 pub least-bound : (xs : List TaskRecord) → leastRank xs ≤ noRank
 unfolding leastRank

@@ -8,11 +8,11 @@ use native.Mathlib.Omega.{arith}
 use lib.Dec.{ltb}
 use borrow.Author.Tests.{ltb-true, ltb-false}
 use Rattle.urgent.specs.declared.TaskRecord.{TaskRecord}
-use Rattle.urgent.specs.Urgent.{noRank, activeOf, keyOf, leastRank}
+use Rattle.urgent.specs.Urgent.{noRank, isActive, keyOf, leastRank}
 use Rattle.urgent.proofs.Laws.{least-bound}
 
 abbrev pub Active : TaskRecord → Type 0
-Active x = activeOf (x .status) ≡ true
+Active x = isActive x ≡ true
 
 -- no record of a list is ACTIVE
 abbrev pub NoneActive : List TaskRecord → Type 0
@@ -26,15 +26,15 @@ pub record MostUrgent (xs : List TaskRecord) (r : ℕ) : Type 0 where
   pub rank : one .rank ≡ r
   pub least : (y : TaskRecord) → List·Memᴰ y xs → Active y → r ≤ y .rank
 
-key-is : (x : TaskRecord) (b : Bool) → activeOf (x .status) ≡ b → keyOf x ≡ cond b (x .rank) noRank
+key-is : (x : TaskRecord) (b : Bool) → isActive x ≡ b → keyOf x ≡ cond b (x .rank) noRank
 unfolding keyOf
 key-is x b e = rw e
 
 -- a record with a key is ACTIVE, and its rank is its key
 keyed : (x : TaskRecord) → keyOf x < noRank → Active x × (x .rank ≡ keyOf x)
-keyed x h = go (activeOf (x .status)) refl
+keyed x h = go (isActive x) refl
   where
-    go : (b : Bool) → activeOf (x .status) ≡ b → Active x × (x .rank ≡ keyOf x)
+    go : (b : Bool) → isActive x ≡ b → Active x × (x .rank ≡ keyOf x)
     go true e = (e, sym (key-is x true e))
     go false e = let k = key-is x false e in absurd (omega arith)
 

@@ -1,40 +1,33 @@
 // Document 01, 'One tick', step 3: "The choice of the running task reads the lent list of task records."
 ghost use mathlib.Core.Path.{_≡_};
 ghost use Prim.Native.Nat.{min};
-ghost use Rattle.urgent.specs.Urgent.{activeOf, keyOf, leastRank};
-use state::Status;
+ghost use Rattle.urgent.specs.Urgent.{keyOf, leastRank};
 
 const TASKS: usize = limits::TASKS as usize;
+
+// Plans of no more tasks than this are walked in a shorter array.
+pub const FEW: u32 = 4;
+
+const FEW_TASKS: usize = FEW as usize;
 
 // What stands for no rank: above every rank that a task has.
 pub const NONE: u32 = limits::TOP_VALUE as u32;
 
-// What the choice reads of a task, and the rank of the task among all: the smaller, the more urgent.
+// What the choice reads of a task: its status as a number, and its rank among all: the smaller, the more urgent.
 pub struct TaskRecord {
-    pub status: Status,
-    pub remaining: u32,
-    pub release: u32,
-    pub machine: u32,
+    pub status: u32,
     pub rank: u32,
-}
-
-fn is_active(status: Status) -> bool
-    ensures { λ r. ⌜ r ≡ activeOf status ⌝ }
-{
-    match status {
-        Status::READY => false,
-        Status::ACTIVE => true,
-        Status::FINISHED => false,
-        Status::ERROR => false,
-    }
 }
 
 // The rank of a record that is ACTIVE.
 fn key_of(one: TaskRecord) -> u32
     ensures { λ r. ⌜ r ≡ keyOf one ⌝ }
 {
-    let status = one.status;
-    if is_active(status) { one.rank } else { NONE }
+    if one.status == arrays::ACTIVE {
+        one.rank
+    } else {
+        NONE
+    }
 }
 
 // One more record is seen, the least rank before it in hand.
@@ -63,4 +56,11 @@ pub fn urgent_of(records: [TaskRecord; TASKS]) -> u32
     ensures { λ r. ⌜ r ≡ leastRank records ⌝ }
 {
     most_urgent(&records)
+}
+
+// And of a shorter one.
+pub fn urgent_of_few(few: [TaskRecord; FEW_TASKS]) -> u32
+    ensures { λ r. ⌜ r ≡ leastRank few ⌝ }
+{
+    most_urgent(&few)
 }

@@ -5,16 +5,7 @@ use Rattle.step_running.proofs.record_of.Tie as tie
 
 returns : tie.Need-returns
 unfolding recordOf
-returns c = rw (← c .before .before .before .before .before .row-field .ensures, ← c .before .before .before .before .task-field .ensures, ← c .before .before .before .status-of .ensures, ← c .before .before .task-field2 .ensures, ← c .before .task-field3 .ensures, ← c .task-field4 .ensures)
+returns c = rw (← c .before .row-field .ensures, ← c .task-field .ensures)
 
 pub record-of-spec : {M : Type 1} → statement M
-record-of-spec =
-    tie.close
-    (tie.spec
-    (λ c κs. search needs)
-    (λ c κs. search needs)
-    (λ c κs. search needs)
-    (λ c κs. search needs)
-    (λ c κs. search needs)
-    (λ c κs. search needs)
-    returns)
+record-of-spec = tie.close (tie.spec (λ c κs. search needs) (λ c κs. search needs) returns)

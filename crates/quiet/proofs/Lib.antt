@@ -1,0 +1,4 @@
+pub mod Due
+pub mod Rows
+pub mod Found
+pub mod Ticks

@@ -1,0 +1,38 @@
+use Prim.Native.Nat.{ℕ, suc, _-_, _<_}
+use native.Mathlib.Omega.{arith}
+use mathlib.Core.Path.{_≡_, sym, _∙_}
+use mathlib.Core.Bool.{true≢false}
+use borrow.Author.Needs.{needs}
+use Rattle.run.proofs.turn.Statement.{statement}
+use Rattle.run.proofs.turn.Tie as tie
+
+rest-requires : tie.Need-rest-requires
+rest-requires c κs = (c .before .before .before .before .before .before .before .before .before .before .pre .0 .place, c .before .before .before .before .before .before .before .before .before .before .pre .1 .1 .1 .2)
+
+returns : tie.Need-returns
+returns c = (c .before .before .rest .ensures _ _ _ _ _ (c .before .before .before .before .before .before .before .before .before .before .before .before .before .pre .1 .1 .1 .0), λ e f. absurd (true≢false (sym (c .before .before .before .before .if1 .taken) ∙ e)))
+
+-- a number above 0 is one more than another
+one-more : (n : ℕ) → 0 < n → suc (n - 1) ≡ n
+one-more n h = omega arith
+
+returns-2 : tie.Need-returns-2
+returns-2 c = (
+  rw (one-more _ (c .before .before .before .before .before .before .before .before .before .before .before .before .before .before .before .before .before .before .before .before .before .before .before .before .before .pre .1 .1 .1 .1)) at (c .before .before .before .before .before .before .before .before .before .before .tick-once .ensures .0 (c .before .before .before .before .before .before .before .before .before .before .before .before .before .before .before .before .before .before .before .before .before .before .before .before .before .args .left - 1)),
+  λ e f. let t = rw f at (c .before .before .before .before .before .before .before .before .before .before .tick-once .ensures .1) in omega arith,
+)
+
+pub turn-spec : {M : Type 1} → statement M
+turn-spec =
+    tie.close
+    (tie.spec
+    rest-requires
+    (λ c. search needs)
+    returns
+    (λ c κs. search needs)
+    (λ c. search needs)
+    (λ c. search needs)
+    (λ c. search needs)
+    (λ c. search needs)
+    (λ c. search needs)
+    returns-2)
