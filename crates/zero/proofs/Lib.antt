@@ -1,0 +1,14 @@
+pub mod Lists
+pub mod Ahead
+pub mod Order
+pub mod Turns
+pub mod Plain
+pub mod Same
+pub mod Misses
+pub mod Ticks
+pub mod Instants
+pub mod Calls
+pub mod Asked
+pub mod Accepted
+pub mod Theorems
+pub mod Witness
