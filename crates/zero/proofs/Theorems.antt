@@ -14,7 +14,7 @@ use Rattle.tick.specs.Tick.{Ticked, tick}
 use Rattle.kernel.specs.Call.{Starts, Runs}
 use Rattle.kernel.specs.declared.Started.{Started}
 use Rattle.kernel.specs.declared.Outcome.{Outcome}
-use Rattle.zero.specs.Zero.{WithoutDeadline0, NoMiss, own, before, ticks, kernelRun, zeroRun, DifferOnlyInExecutionAndPriority, recordsIn, Called, ticksOf, allRecords, lastState, Session, CallReads, SessionReads, ReadsBefore, ShowSame}
+use Rattle.zero.specs.Zero.{WithoutDeadline0, NoMiss, own, before, ticks, kernelRun, zeroRun, DifferOnlyInExecutionAndPriority, recordsIn, Called, ticksOf, allRecords, lastState, Service, CallReads, ServiceReads, ReadsBefore, ShowSame}
 use Rattle.zero.proofs.Plain.{Shows}
 use Rattle.zero.proofs.Same.{zero-same}
 use Rattle.zero.proofs.Calls.{call-state, call-trace, call-records, calls-state, calls-records, calls-traces, started-good, started-fresh}
@@ -64,35 +64,35 @@ after-each-tick planBytes eventBytes started starts accepted deadlines asked len
 
 -- ---- 2. The same of any number of calls, each from the state that the one before returned: their records joined, the signals
 -- after the last of them, and after each tick
-module _ (planBytes eventBytes : List ℕ) (started : Started) (calls : List Called) (session : Session planBytes eventBytes started calls) where
+module _ (planBytes eventBytes : List ℕ) (started : Started) (calls : List Called) (service : Service planBytes eventBytes started calls) where
   abbrev step : State → Ticked
   step = tick (planOf planBytes) (eventsOf eventBytes)
 
   -- the plan has number 0
   good : planVerdict planBytes .number ≡ 0
-  good = started-good planBytes started (session .starts) (session .accepted)
+  good = started-good planBytes started (service .starts) (service .accepted)
 
   -- the calls start from the fresh state
   from-fresh : started .state ≡ fresh (planOf planBytes)
-  from-fresh = started-fresh planBytes started (session .starts) (session .accepted)
+  from-fresh = started-fresh planBytes started (service .starts) (service .accepted)
 
   -- whatever is missed, their records are those of as many ticks of the kernel
   pub shown : allRecords calls ≡ kernelRun planBytes eventBytes (ticksOf calls) .entries
-  shown = calls-records planBytes eventBytes (started .state) calls (session .inTurn) ∙ ap (λ (s : State). ticks step (ticksOf calls) s .entries) from-fresh
+  shown = calls-records planBytes eventBytes (started .state) calls (service .inTurn) ∙ ap (λ (s : State). ticks step (ticksOf calls) s .entries) from-fresh
 
   -- and so is the state after the last of them
   pub reached : lastState (started .state) calls ≡ kernelRun planBytes eventBytes (ticksOf calls) .state
-  reached = calls-state planBytes eventBytes (started .state) calls (session .inTurn) ∙ ap (λ (s : State). ticks step (ticksOf calls) s .state) from-fresh
+  reached = calls-state planBytes eventBytes (started .state) calls (service .inTurn) ∙ ap (λ (s : State). ticks step (ticksOf calls) s .state) from-fresh
 
   -- all calls without a miss: the zero-time reading
-  pub many-calls : WithoutDeadline0 (planOf planBytes) → NoMiss (allRecords calls) → SessionReads planBytes eventBytes started calls
+  pub many-calls : WithoutDeadline0 (planOf planBytes) → NoMiss (allRecords calls) → ServiceReads planBytes eventBytes started calls
   many-calls deadlines no-miss =
       let missed = subst NoMiss shown no-miss in
       let same = run-entries planBytes good eventBytes deadlines (ticksOf calls) missed in
       record {
         records = shown ∙ same;
         own-records = λ i. ap (own i) (shown ∙ same);
-        traces = calls-traces planBytes eventBytes (started .state) calls (session .inTurn);
+        traces = calls-traces planBytes eventBytes (started .state) calls (service .inTurn);
         state = reached;
         last = ap (λ (s : State). s .signals) reached ∙ run-signals planBytes good eventBytes deadlines (ticksOf calls) missed;
         signals = run-each planBytes good eventBytes deadlines (ticksOf calls) missed;
@@ -114,14 +114,14 @@ module _ (planBytes eventBytes : List ℕ) (started : Started) (calls : List Cal
 -- ---- 3. Two accepted plans that differ only in execution times and priorities, both without deadline 0, under the same events,
 -- while neither has a miss: after as many ticks, in however many calls, each task's own records and all signals are the same
 module _ (planBytes otherBytes eventBytes : List ℕ) (started other-started : Started) (calls other-calls : List Called)
-    (session : Session planBytes eventBytes started calls) (other-session : Session otherBytes eventBytes other-started other-calls)
+    (service : Service planBytes eventBytes started calls) (other-service : Service otherBytes eventBytes other-started other-calls)
     (deadlines : WithoutDeadline0 (planOf planBytes)) (other-deadlines : WithoutDeadline0 (planOf otherBytes))
     (same : DifferOnlyInExecutionAndPriority (planOf planBytes) (planOf otherBytes)) where
   -- the zero-time readings of the two plans show the same
   zero-shows : (n : ℕ) → Shows (zeroRun planBytes eventBytes n) (zeroRun otherBytes eventBytes n)
   zero-shows n =
-      let g = good planBytes eventBytes started calls session in
-      let h = good otherBytes eventBytes other-started other-calls other-session in
+      let g = good planBytes eventBytes started calls service in
+      let h = good otherBytes eventBytes other-started other-calls other-service in
       zero-same (planOf planBytes) (planOf otherBytes) same (order-numbers planBytes g) (order-numbers otherBytes h)
       (outputs-once planBytes g) (outputs-once otherBytes h) (eventsOf eventBytes) n
 
@@ -129,8 +129,8 @@ module _ (planBytes otherBytes eventBytes : List ℕ) (started other-started : S
   pub two-plans : ticksOf calls ≡ ticksOf other-calls → NoMiss (allRecords calls) → NoMiss (allRecords other-calls)
       → ShowSame (lastState (started .state) calls) (allRecords calls) (lastState (other-started .state) other-calls) (allRecords other-calls)
   two-plans count no-miss other-no-miss =
-      let a = many-calls planBytes eventBytes started calls session deadlines no-miss in
-      let b = many-calls otherBytes eventBytes other-started other-calls other-session other-deadlines other-no-miss in
+      let a = many-calls planBytes eventBytes started calls service deadlines no-miss in
+      let b = many-calls otherBytes eventBytes other-started other-calls other-service other-deadlines other-no-miss in
       let n = ticksOf other-calls in
       let z = zero-shows n in
       record {
@@ -147,8 +147,8 @@ module _ (planBytes otherBytes eventBytes : List ℕ) (started other-started : S
       → NoMiss (before k (allRecords calls)) → NoMiss (before k (allRecords other-calls))
       → ShowSame (kernelRun planBytes eventBytes k .state) (before k (allRecords calls)) (kernelRun otherBytes eventBytes k .state) (before k (allRecords other-calls))
   two-plans-before k l m no-miss other-no-miss =
-      let a = before-a-miss planBytes eventBytes started calls session deadlines k l no-miss in
-      let b = before-a-miss otherBytes eventBytes other-started other-calls other-session other-deadlines k m other-no-miss in
+      let a = before-a-miss planBytes eventBytes started calls service deadlines k l no-miss in
+      let b = before-a-miss otherBytes eventBytes other-started other-calls other-service other-deadlines k m other-no-miss in
       let z = zero-shows k in
       record {
         own-records = λ i. a .own-records i ∙ z .own-records i ∙ sym (b .own-records i);

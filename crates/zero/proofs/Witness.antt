@@ -27,7 +27,7 @@ use Rattle.tick.specs.Turns.{writesOf, deadlineOf, requests, periodicCall, even
 use Rattle.tick.specs.Tick.{writeAll, each, eventsAt, setNow, better, mostUrgent, visitIf, tick, zeroTick}
 use Rattle.kernel.specs.Call.{Starts, Runs, call, runRoom, Ran}
 use Rattle.kernel.specs.declared.Started.{Started}
-use Rattle.zero.specs.Zero.{WithoutDeadline0, NoMiss, before, ticks, zeroRun, TaskAlike, DifferOnlyInExecutionAndPriority, recordsIn, Called, recordsOf, InTurn, ticksOf, allRecords, lastState, Session, CallReads, SessionReads, ReadsBefore, ShowSame}
+use Rattle.zero.specs.Zero.{WithoutDeadline0, NoMiss, before, ticks, zeroRun, TaskAlike, DifferOnlyInExecutionAndPriority, recordsIn, Called, recordsOf, InTurn, ticksOf, allRecords, lastState, Service, CallReads, ServiceReads, ReadsBefore, ShowSame}
 use Rattle.zero.proofs.Lists.{noMiss-left}
 use Rattle.zero.proofs.Theorems.{one-call, many-calls, before-a-miss, two-plans}
 
@@ -154,8 +154,8 @@ sample-same = record { signals = refl; count = refl; tasks = go }
     go (suc (suc i)) l = absurd (omega arith)
 
 -- ---- the premises can be met
-session : {bytes ns : List ℕ} {d f : Bool} {m n : ℕ} → Computed bytes ns d f m n → Session bytes [] (started bytes) (calls bytes ns)
-session {bytes} {ns} c = record { starts = starts-of bytes (c .accepted); accepted = refl; inTurn = turns-of bytes (fresh (planOf bytes)) ns (c .runs) }
+service : {bytes ns : List ℕ} {d f : Bool} {m n : ℕ} → Computed bytes ns d f m n → Service bytes [] (started bytes) (calls bytes ns)
+service {bytes} {ns} c = record { starts = starts-of bytes (c .accepted); accepted = refl; inTurn = turns-of bytes (fresh (planOf bytes)) ns (c .runs) }
 
 -- P4 by theorem 1, in one call
 pub p4-reads : let c = called p4 (fresh (planOf p4)) 12 in CallReads p4 [] (c .lent) (c .left) (c .outcome)
@@ -167,17 +167,17 @@ p4-reads =
     (noMiss-left (recordsOf (called p4 s 12)) [] (fine _ (c .no-miss)))
 
 -- P1 by theorem 2, in two calls
-pub p1-reads : SessionReads p1 [] (started p1) (calls p1 (5 ∷ 7 ∷ []))
+pub p1-reads : ServiceReads p1 [] (started p1) (calls p1 (5 ∷ 7 ∷ []))
 p1-reads =
     let c = computed .0 in
-    many-calls p1 [] (started p1) (calls p1 (5 ∷ 7 ∷ [])) (session c) (with-deadlines p1 (c .has-deadlines)) (fine _ (c .no-miss))
+    many-calls p1 [] (started p1) (calls p1 (5 ∷ 7 ∷ [])) (service c) (with-deadlines p1 (c .has-deadlines)) (fine _ (c .no-miss))
 
 -- P3 up to its miss at tick 8
 pub p3-reads : ReadsBefore 8 p3 [] (calls p3 (12 ∷ []))
 p3-reads =
     let c = computed .2 in
     let count = c .count in
-    before-a-miss p3 [] (started p3) (calls p3 (12 ∷ [])) (session c) (with-deadlines p3 (c .has-deadlines)) 8 (omega arith) (fine _ (c .early))
+    before-a-miss p3 [] (started p3) (calls p3 (12 ∷ [])) (service c) (with-deadlines p3 (c .has-deadlines)) 8 (omega arith) (fine _ (c .early))
 
 -- P1 and P4 by theorem 3: "each task's lines as in P1"
 pub p1-p4 : let cs = calls p1 (5 ∷ 7 ∷ []) in let ds = calls p4 (12 ∷ []) in
@@ -185,27 +185,27 @@ pub p1-p4 : let cs = calls p1 (5 ∷ 7 ∷ []) in let ds = calls p4 (12 ∷ []) 
 p1-p4 =
     let c = computed .0 in
     let d = computed .1 in
-    two-plans p1 p4 [] (started p1) (started p4) (calls p1 (5 ∷ 7 ∷ [])) (calls p4 (12 ∷ [])) (session c) (session d)
+    two-plans p1 p4 [] (started p1) (started p4) (calls p1 (5 ∷ 7 ∷ [])) (calls p4 (12 ∷ [])) (service c) (service d)
     (with-deadlines p1 (c .has-deadlines)) (with-deadlines p4 (d .has-deadlines)) sample-same
     (c .count ∙ sym (d .count)) (fine _ (c .no-miss)) (fine _ (d .no-miss))
 
 -- ---- and none can be dropped
 -- the records of the kernel and of the zero-time reading, counted
-apart : (bytes ns : List ℕ) (d f : Bool) (m n : ℕ) → Computed bytes ns d f m n → m ≢ n → SessionReads bytes [] (started bytes) (calls bytes ns) → ⊥
+apart : (bytes ns : List ℕ) (d f : Bool) (m n : ℕ) → Computed bytes ns d f m n → m ≢ n → ServiceReads bytes [] (started bytes) (calls bytes ns) → ⊥
 apart bytes ns d f m n c differ h =
     differ
     (sym (c .records) ∙ ap length (h .records) ∙ ap (λ (k : ℕ). length (zeroRun bytes [] k .entries)) (c .count) ∙ c .zero-records)
 
 -- P3 meets all premises but that nothing is missed, and is not read so
 pub p3-apart : let cs = calls p3 (12 ∷ []) in
-    Session p3 [] (started p3) cs × WithoutDeadline0 (planOf p3) × (SessionReads p3 [] (started p3) cs → ⊥)
+    Service p3 [] (started p3) cs × WithoutDeadline0 (planOf p3) × (ServiceReads p3 [] (started p3) cs → ⊥)
 p3-apart =
     let c = computed .2 in
-    (session c, with-deadlines p3 (c .has-deadlines), apart p3 (12 ∷ []) true false 5 7 c (λ e. omega arith))
+    (service c, with-deadlines p3 (c .has-deadlines), apart p3 (12 ∷ []) true false 5 7 c (λ e. omega arith))
 
 -- the sample with deadline 0 meets all premises but this, and is not read so
 pub p0-apart : let cs = calls p0 (12 ∷ []) in
-    Session p0 [] (started p0) cs × NoMiss (allRecords cs) × (SessionReads p0 [] (started p0) cs → ⊥)
+    Service p0 [] (started p0) cs × NoMiss (allRecords cs) × (ServiceReads p0 [] (started p0) cs → ⊥)
 p0-apart =
     let c = computed .3 in
-    (session c, fine _ (c .no-miss), apart p0 (12 ∷ []) false true 7 4 c (λ e. omega arith))
+    (service c, fine _ (c .no-miss), apart p0 (12 ∷ []) false true 7 4 c (λ e. omega arith))

@@ -112,7 +112,7 @@ lastState s [] = s
 lastState s (c ∷ cs) = lastState (c .outcome .state) cs
 
 -- a fresh start that accepts the plan, and calls in turn from its state on
-pub record Session (planBytes eventBytes : List ℕ) (started : Started) (calls : List Called) : Type 0 where
+pub record Service (planBytes eventBytes : List ℕ) (started : Started) (calls : List Called) : Type 0 where
   pub starts : Starts planBytes started
   pub accepted : said (started .answer) .number ≡ 0
   pub inTurn : InTurn planBytes eventBytes (started .state) calls
@@ -132,7 +132,7 @@ pub record CallReads (planBytes eventBytes lent left : List ℕ) (r : Outcome) :
   pub signals : (k : ℕ) → k ≤ r .ticks → kernelRun planBytes eventBytes k .state .signals ≡ zeroRun planBytes eventBytes k .state .signals
 
 -- what calls in turn gave from the fresh state, all together
-pub record SessionReads (planBytes eventBytes : List ℕ) (started : Started) (calls : List Called) : Type 0 where
+pub record ServiceReads (planBytes eventBytes : List ℕ) (started : Started) (calls : List Called) : Type 0 where
   -- all their records, in their order; so also each task's own
   pub records : allRecords calls ≡ zeroRun planBytes eventBytes (ticksOf calls) .entries
   pub own-records : (i : ℕ) → own i (allRecords calls) ≡ own i (zeroRun planBytes eventBytes (ticksOf calls) .entries)
