@@ -1,10 +1,9 @@
 // Document 01, a run of ticks over the lent arrays: each is run only if all its records fit in the trace, and ticks in which
 // nothing can happen are passed over.
 ghost use mathlib.Core.Path.{_≡_};
-ghost use mathlib.Core.Bool.{false, cond, not, _&&_, _||_};
+ghost use mathlib.Core.Bool.{false, cond};
 ghost use mathlib.Core.List.{List};
 ghost use Prim.Native.Nat.{ℕ, suc, _+_, _*_, _<_, _≤_, _^_};
-ghost use lib.Dec.{ltb};
 ghost use lib.ListN.{length};
 ghost use Rattle.events.specs.Events.{eventCount};
 ghost use Rattle.step.specs.Step.{given, Sizes, Ready};
@@ -133,21 +132,8 @@ fn turn(
     )
 }
 
-// Whether the last look found ticks to pass over.
-fn keen_after(look: bool, keen: bool, ticks: u32) -> bool
-    ensures { λ r. ⌜ r ≡ cond look (ltb 0 ticks) keen ⌝ }
-{
-    if look { 0 < ticks } else { keen }
-}
-
-// A look costs about what a tick does: it is taken after a tick without records, and after every tick while looks find something.
-fn looks_next(look: bool, keen: bool, same: bool) -> bool
-    ensures { λ r. ⌜ r ≡ (not look && (keen || same)) ⌝ }
-{
-    !look & (keen | same)
-}
-
-// So many ticks, one after the other, up to the first whose records do not all fit.
+// So many ticks, one after the other, up to the first whose records do not all fit. After each tick it looks for ticks that can be
+// passed over: a look costs less than a tick, and mostly finds some.
 pub fn run_ticks(
     plan: &[u8],
     rows: &[u32],
@@ -171,7 +157,6 @@ pub fn run_ticks(
     let mut now = clock;
     let mut done: u32 = 0;
     let mut look = false;
-    let mut keen = false;
     while done < asked {
         let one = turn(
             look,
@@ -197,8 +182,7 @@ pub fn run_ticks(
                 full: true,
             };
         }
-        keen = keen_after(look, keen, one.ticks);
-        look = looks_next(look, keen, next.at == now.at);
+        look = !look;
         now = next;
         done = total;
     }

@@ -14,11 +14,11 @@ abbrev arrays : List ℕ → List ℕ → List ℕ → List ℕ → Arrays
 arrays signals tasks latched held = record { signals = signals; tasks = tasks; latched = latched; held = held }
 
 abbrev Inv-loop : tie.InvT-loop
-Inv-loop plan rows count events asked signals₀ tasks₀ latched₀ held₀ trace₀ most now₀ done₀ look₀ keen₀ signals tasks latched held trace now done look keen =
+Inv-loop plan rows count events asked signals₀ tasks₀ latched₀ held₀ trace₀ most now₀ done₀ look₀ signals tasks latched held trace now done look =
     Kept (given plan rows count events) asked (arrays signals₀ tasks₀ latched₀ held₀) trace₀ now₀ (arrays signals tasks latched held) trace now done
 
 abbrev μ-loop : tie.MeasureT-loop
-μ-loop plan rows count events asked signals₀ tasks₀ latched₀ held₀ trace₀ most now₀ done₀ look₀ keen₀ signals tasks latched held trace now done look keen = toGo asked done look
+μ-loop plan rows count events asked signals₀ tasks₀ latched₀ held₀ trace₀ most now₀ done₀ look₀ signals tasks latched held trace now done look = toGo asked done look
 
 most-entries-requires : tie.Need-most-entries-requires Inv-loop μ-loop
 most-entries-requires c κs = c .before .before .before .before .before .before .before .before .pre .0 .rows
@@ -39,12 +39,12 @@ returns : tie.Need-returns Inv-loop μ-loop
 returns c = kept-full _ _ _ _ _ _ _ _ _ (c .before .before .before .before .before .before .before .before .before .before .before .before .before .before .before .before .before .before .before .before .loop .inv) _ _ _ (c .before .before .before .before .before .before .before .before .before .before .before .before .before .turn .ensures .0) (c .if1 .taken)
 
 loop-less : tie.Need-loop-less Inv-loop μ-loop
-loop-less c = nearer _ _ _ _ _ _ (c .before .before .before .before .before .before .before .before .before .before .before .before .before .before .before .before .before .before .before .before .before .before .before .loop-test .taken) (c .before .before .before .before .before .before .before .before .before .before .before .before .before .before .before .before .before .turn .ensures .0 .most) (λ e. c .before .before .before .before .before .before .before .before .before .before .before .before .before .before .before .before .before .turn .ensures .1 e (c .before .before .before .before .if1 .left)) (c .looks-next .ensures)
+loop-less c = nearer _ _ _ _ (c .before .before .before .before .before .before .before .before .before .before .before .before .before .before .before .before .before .before .before .loop-test .taken) (c .before .before .before .before .before .before .before .before .before .before .before .before .before .turn .ensures .0 .most) (λ e. c .before .before .before .before .before .before .before .before .before .before .before .before .before .turn .ensures .1 e (c .if1 .left))
 
 loop-again : tie.Need-loop-again Inv-loop μ-loop
 loop-again c =
-    kept-more _ _ _ _ _ _ _ _ _ (c .before .before .before .before .before .before .before .before .before .before .before .before .before .before .before .before .before .before .before .before .before .before .before .before .loop .inv) _ _ _ (c .before .before .before .before .before .before .before .before .before .before .before .before .before .before .before .before .before .turn .ensures .0) (c .before .before .before .before .if1 .left)
-    (record { signals = c .before .before .before .before .before .before .before .before .before .before .before .before .before .before .before .before .before .turn .kept .1 .1 .1 .1 .1 .1 .1 .1 .0; tasks = c .before .before .before .before .before .before .before .before .before .before .before .before .before .before .before .before .before .turn .kept .1 .1 .1 .1 .1 .1 .1 .1 .1 .0; latched = c .before .before .before .before .before .before .before .before .before .before .before .before .before .before .before .before .before .turn .kept .1 .1 .1 .1 .1 .1 .1 .1 .1 .1 .0; held = c .before .before .before .before .before .before .before .before .before .before .before .before .before .before .before .before .before .turn .kept .1 .1 .1 .1 .1 .1 .1 .1 .1 .1 .1 .0 }) (c .before .before .before .before .before .before .before .before .before .before .before .before .before .before .before .before .before .turn .kept .1 .1 .1 .1 .1 .1 .1 .1 .1 .1 .1 .1 .0)
+    kept-more _ _ _ _ _ _ _ _ _ (c .before .before .before .before .before .before .before .before .before .before .before .before .before .before .before .before .before .before .before .before .loop .inv) _ _ _ (c .before .before .before .before .before .before .before .before .before .before .before .before .before .turn .ensures .0) (c .if1 .left)
+    (record { signals = c .before .before .before .before .before .before .before .before .before .before .before .before .before .turn .kept .1 .1 .1 .1 .1 .1 .1 .1 .0; tasks = c .before .before .before .before .before .before .before .before .before .before .before .before .before .turn .kept .1 .1 .1 .1 .1 .1 .1 .1 .1 .0; latched = c .before .before .before .before .before .before .before .before .before .before .before .before .before .turn .kept .1 .1 .1 .1 .1 .1 .1 .1 .1 .1 .0; held = c .before .before .before .before .before .before .before .before .before .before .before .before .before .turn .kept .1 .1 .1 .1 .1 .1 .1 .1 .1 .1 .1 .0 }) (c .before .before .before .before .before .before .before .before .before .before .before .before .before .turn .kept .1 .1 .1 .1 .1 .1 .1 .1 .1 .1 .1 .1 .0)
 
 same-length : tie.Need-same-length Inv-loop μ-loop
 same-length c = c .before .before .before .before .before .before .before .before .before .before .before .before .before .turn .kept .1 .1 .1 .1 .1 .1 .1 .1 .0 ∙ c .before .before .before .before .before .before .before .before .before .before .before .before .before .before .before .before .before .before .before .before .loop .inv .long .signals
@@ -96,8 +96,6 @@ run-ticks-spec =
     same-length-4
     same-length-5
     returns
-    (λ c κs. search needs)
-    (λ c κs. search needs)
     loop-less
     loop-again
     same-length-6
