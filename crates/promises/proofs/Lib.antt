@@ -1,0 +1,17 @@
+pub mod Compose
+pub mod Tasks
+pub mod View
+pub mod Timed
+pub mod Bodies
+pub mod Kept
+pub mod Signals
+pub mod Written
+pub mod Fitted
+pub mod Honest
+pub mod Refused
+pub mod Sums
+pub mod Moves
+pub mod Conserved
+pub mod Together
+pub mod Atomic
+pub mod Witness
