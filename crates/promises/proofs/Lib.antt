@@ -14,4 +14,5 @@ pub mod Moves
 pub mod Conserved
 pub mod Together
 pub mod Atomic
+pub mod Errors
 pub mod Witness
