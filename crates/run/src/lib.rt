@@ -133,7 +133,7 @@ fn turn(
 }
 
 // So many ticks, one after the other, up to the first whose records do not all fit. After each tick it looks for ticks that can be
-// passed over: a look costs less than a tick, and mostly finds some.
+// passed over: a look costs less than a tick does.
 pub fn run_ticks(
     plan: &[u8],
     rows: &[u32],
