@@ -6,7 +6,8 @@ use lib.Dec.{eqb}
 use Rattle.answers.specs.declared.Answer.{Answer}
 use Rattle.answers.specs.declared.Answer.the-variants.{Accepted, PlanSize, PlanHead, PlanContents, TaskShape, TaskTiming, TaskBody, SamePriority, SameOutput, EventSize, EventInstant, EventContent, StateUnfit, TooManyTicks, TraceFull, NoSuchTask}
 
--- "A place goes with the number"
+-- "A place goes with the number: the task for 4..6, the later task of the first clash (smallest task number) for 7 and 8, the
+-- record for 10 and 11, otherwise 0."
 pub record Verdict : Type 0 where
   pub number : ℕ
   pub place : ℕ
@@ -14,7 +15,7 @@ pub record Verdict : Type 0 where
 abbrev pub verdict : ℕ → ℕ → Verdict
 verdict number place = record { number = number; place = place }
 
--- the table of numbers; "the task for 4..6, the later task of the first clash for 7 and 8, the record for 10 and 11, otherwise 0"
+-- number and place of each answer
 abbrev pub said : Answer → Verdict
 said Accepted = verdict 0 0
 said PlanSize = verdict 1 0

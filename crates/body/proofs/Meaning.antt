@@ -15,7 +15,7 @@ module _ (latched : List ℕ) (machine : ℕ) where
   abbrev pub May : Transition → Type 0
   May x = mayFire latched machine x ≡ true
 
-  -- of those that P holds of, x is one "with the smallest order whose latched input is not 0"
+  -- of those that P holds of, x is one with the smallest order
   pub record Smallest (P : Transition → Type 0) (x : Transition) : Type 0 where
     pub among : P x
     pub may : May x

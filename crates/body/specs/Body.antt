@@ -19,11 +19,11 @@ inTurn step [] hand = hand
 inTurn step (x ∷ xs) hand = inTurn step xs (step x hand)
 
 -- ---- "A supervisor takes, from its machine state, the transition with the smallest order whose latched input is not 0; at most one."
--- "from its machine state", "whose latched input is not 0"
+-- it starts from the machine state, and its latched input is not 0
 abbrev pub mayFire : List ℕ → ℕ → Transition → Bool
 mayFire latched machine x = eqb (x .from) machine && not (eqb (input latched (x .input)) 0)
 
--- "with the smallest order": a transition that may fire against the best before it, which stays where the orders are equal
+-- the smaller order: a transition that may fire against the best before it, which stays where the orders are equal
 unfoldable pub sooner : Transition → Option Transition → Option Transition
 sooner x none = some x
 sooner x (some best) = cond (ltb (x .order) (best .order)) (some x) (some best)
@@ -32,7 +32,7 @@ sooner x (some best) = cond (ltb (x .order) (best .order)) (some x) (some best)
 abbrev pub look : List ℕ → ℕ → Transition → Option Transition → Option Transition
 look latched machine x best = cond (mayFire latched machine x) (sooner x best) best
 
--- "at most one": the one that is taken, if any
+-- the one that is taken, if any
 abbrev pub fires : List ℕ → ℕ → List Transition → Option Transition
 fires latched machine transitions = inTurn (look latched machine) transitions none
 
@@ -41,12 +41,12 @@ unfoldable pub after : ℕ → Option Transition → ℕ
 after machine none = machine
 after machine (some x) = x .to
 
--- "'updated', is 1 when the new state differs from the old and 0 otherwise"
+-- the new state differs from the old
 abbrev pub isUpdated : ℕ → Option Transition → Bool
 isUpdated machine taken = not (eqb (after machine taken) machine)
 
 -- ---- the actions
--- "the sum wraps at 4,294,967,296"
+-- where sums wrap
 abbrev pub wrapsAt : ℕ
 wrapsAt = topValue + 1
 
@@ -57,7 +57,7 @@ move held a b m =
     (set (set held a (getD held a 0 - m)) b (getD held b 0 + m))
     held
 
--- "1 set: a gets c. 2 copy: a gets input c. 3 add: input c is added to a and the sum wraps .. 4 move"
+-- "1 set: a gets c. 2 copy: a gets input c. 3 add: input c is added to a and the sum wraps at 4,294,967,296."; then the move
 unfoldable pub doAction : List ℕ → Action → List ℕ → List ℕ
 doAction latched x held =
     let m = input latched (x .c) in
@@ -70,7 +70,8 @@ doAction latched x held =
 abbrev pub perform : List ℕ → ℕ → Action → List ℕ → List ℕ
 perform latched state x held = cond (eqb (x .state) state) (doAction latched x held) held
 
--- "the state's actions .. run in file order on the held outputs; a state that no action names, 0 and above 16 included, runs none"
+-- "the state's actions (a supervisor's new state) run in file order on the held outputs; a state that no action names, 0 and
+-- above 16 included, runs none."
 abbrev pub runActions : List ℕ → ℕ → List Action → List ℕ → List ℕ
 runActions latched state actions held = inTurn (perform latched state) actions held
 
@@ -83,11 +84,11 @@ runIf updated latched state actions held = cond updated (runActions latched stat
 abbrev pub leaves : ℕ → List ℕ → Result
 leaves machine held = record { machine = machine; held = held }
 
--- "Held output 0 becomes the new state; held output 1, 'updated', is 1 .. and 0 otherwise."
+-- "Held output 0 becomes the new state; held output 1, 'updated', is 1 when the new state differs from the old and 0 otherwise."
 abbrev pub report : ℕ → Bool → List ℕ → List ℕ
 report next updated held = set (set held 0 next) 1 (cond updated 1 0)
 
--- "the state's actions (a supervisor's new state) run"
+-- a transition is looked for, the outputs 0 and 1 are set, then the new state's actions run
 unfoldable pub supervise : Task → List ℕ → ℕ → List ℕ → Result
 supervise k latched machine held =
     let taken = fires latched machine (k .transitions) in

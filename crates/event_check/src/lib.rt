@@ -78,7 +78,7 @@ fn one_event(plan: &[u8], events: &[u8], i: u32, last: u32, written: u64) -> Ans
     Answer::Accepted
 }
 
-// "for each event in turn 10, 11"
+// Rules 10 and 11 of each event.
 fn all_events(plan: &[u8], events: &[u8], count: u32, written: u64) -> Answer
     ensures { λ r. ⌜ said r ≡ firstBroken (eventRules (contentBy (wordsOf (now (plan .entry))) written) 0 0 (tab (eventOf (wordsOf (now (events .entry)))) 0 count)) ⌝ }
 {

@@ -198,8 +198,8 @@ module _ (planBytes eventBytes : List ℕ) where
   unfolding allHold
   accepted-list a = rw (eq-eqb _ _ (a .whole), le-leb _ _ (a .size)) (each-hold planBytes 0 0 (eventsOf eventBytes) (accepted-each a))
 
--- ---- number and place: 0 exactly when every rule holds; else those of a broken rule before which, in the paper's order
--- "1, 2, 3; then for each task in turn 4, 5, 6; then 7, 8; 9; for each event in turn 10, 11", every rule holds
+-- ---- number and place: 0 exactly when every rule holds; else those of a broken rule before which every rule holds, in the
+-- order of the paper
 pub verdict-decides : (planBytes eventBytes : List ℕ) → Decides (checkRules planBytes eventBytes) (eventsVerdict planBytes eventBytes)
 verdict-decides planBytes eventBytes = decides (checkRules planBytes eventBytes) (numbered-check planBytes eventBytes)
 

@@ -53,7 +53,7 @@ setEventRule plan e = eqb (e .kind) 2 && ltb (e .target) (length (plan .signals)
 abbrev pub contentRule : Plan → Event → Bool
 contentRule plan e = releaseEventRule plan e || setEventRule plan e
 
--- ---- "for each event in turn 10, 11": record i, after a record of instant last; good is the rule 11 of the plan at hand
+-- ---- 10 and 11 of one event: record i, after a record of instant last; good is the rule 11 of the plan at hand
 abbrev pub oneEvent : (Event → Bool) → ℕ → ℕ → Event → List Rule
 oneEvent good i last e = rule 10 i (instantRule last e) ∷ rule 11 i (good e) ∷ []
 
@@ -62,12 +62,12 @@ unfoldable pub eventRules : (Event → Bool) → ℕ → ℕ → List Event → 
 eventRules good i last [] = []
 eventRules good i last (e ∷ rest) = oneEvent good i last e ++ eventRules good (i + 1) (e .instant) rest
 
--- "9; for each event in turn 10, 11"; the first instant is compared with 0
+-- 9, then 10 and 11 of each event; the first instant is compared with 0
 abbrev pub eventListRules : List ℕ → List ℕ → List Rule
 eventListRules planBytes eventBytes =
     rule 9 0 (eventSizeRule eventBytes) ∷ eventRules (contentRule (planOf planBytes)) 0 0 (eventsOf eventBytes)
 
--- "Order: 1, 2, 3; then for each task in turn 4, 5, 6; then 7, 8; 9; for each event in turn 10, 11"
+-- those of the plan before those of the events
 abbrev pub checkRules : List ℕ → List ℕ → List Rule
 checkRules planBytes eventBytes = planRules planBytes ++ eventListRules planBytes eventBytes
 
@@ -75,7 +75,7 @@ checkRules planBytes eventBytes = planRules planBytes ++ eventListRules planByte
 abbrev pub eventsVerdict : List ℕ → List ℕ → Verdict
 eventsVerdict planBytes eventBytes = firstBroken (checkRules planBytes eventBytes)
 
--- ---- "event place = number of events with instant < tick"
+-- ---- the event place: how many events are before tick t
 unfoldable pub passed : ℕ → List Event → ℕ
 passed t [] = 0
 passed t (e ∷ rest) = cond (ltb (e .instant) t) 1 0 + passed t rest

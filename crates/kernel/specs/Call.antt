@@ -53,7 +53,7 @@ abbrev pub onward : Ticked → Ran → Ran
 onward u r = record { verdict = r .verdict; ticks = suc (r .ticks); state = r .state; entries = u .entries ++ r .entries }
 
 -- "A tick is run only if all its records fit": room is the number of words that are left in the trace.
--- 14: "trace full before the asked ticks were run"; the ticks already run stand
+-- 0: "accepted, or all asked ticks run". 14: "trace full before the asked ticks were run"; the ticks already run stand
 unfoldable pub runRoom : (State → Ticked) → ℕ → ℕ → State → Ran
 runRoom step room zero s = stopped (verdict 0 0) s
 runRoom step room (suc n) s =

@@ -24,7 +24,7 @@ pub struct Outcome {
     pub state: State,
 }
 
-// "Fresh start checks the plan; if refused it returns the all-zero state."
+// The entry that starts: an answer and a state for any bytes.
 pub fn fresh_start(plan: &[u8]) -> Started
     ensures { λ r. ⌜ Starts (now (plan .entry)) r ⌝ }
 {

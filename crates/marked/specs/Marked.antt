@@ -40,7 +40,7 @@ printed ticks planBytes eventBytes = runLines (programRun ticks planBytes eventB
 abbrev pub planEnd : List ℕ → ℕ
 planEnd input = 12 + wordAt input 1
 
--- never 15: "input shorter than 12 bytes, or its length not 12 + plan bytes + event bytes"
+-- never 15: "program only: input shorter than 12 bytes, or its length not 12 + plan bytes + event bytes; before all others"
 abbrev pub inputRule : List ℕ → Bool
 inputRule input = leb 12 (length input) && eqb (length input) (planEnd input + wordAt input 2)
 

@@ -234,7 +234,7 @@ body-iff s k =
           )),
     )
 
--- ---- "for each task in turn 4, 5, 6"
+-- ---- 4, 5 and 6 of each task
 record Tasks (s : ℕ) (bodies : List (List ℕ)) : Type 0 where
   shapes : Every Shape bodies
   timing : Every Timing (map taskOf bodies)
@@ -346,8 +346,8 @@ rules-iff bytes =
           )),
     )
 
--- number and place: 0 exactly when every rule holds; else those of a broken rule before which, in the paper's order
--- "1, 2, 3; then for each task in turn 4, 5, 6; then 7, 8", every rule holds
+-- number and place: 0 exactly when every rule holds; else those of a broken rule before which every rule holds, in the order
+-- of the paper
 pub verdict-decides : (bytes : List ℕ) → Decides (planRules bytes) (planVerdict bytes)
 verdict-decides bytes = decides (planRules bytes) (plan-numbered bytes)
 

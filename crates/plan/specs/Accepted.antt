@@ -9,7 +9,7 @@ use Rattle.words.specs.Words.{wordsOf}
 use Rattle.lists.specs.Lists.{Between, Every, Pairwise}
 use Rattle.plan.specs.File.{word, signalCount, taskCount, startOf, lengthOf, Transition, Action, Task, inputCount, outputCount, transitionCount, actionCount, taskBodies, planOf, allOutputs}
 
--- never 1: "plan bytes not a multiple of 4, below 12, or above 20,564"
+-- never 1: whole words, and as many bytes as a file may have
 pub record Size (bytes : List ℕ) : Type 0 where
   pub whole : length bytes % 4 ≡ 0
   pub limits : Between 12 maxPlanBytes (length bytes)
@@ -33,7 +33,7 @@ pub record Contents (ws : List ℕ) : Type 0 where
   -- "Signals body: S initial values."
   pub signals : lengthOf ws 0 ≡ signalCount ws
 
--- never 4: "task body shorter than 11, a count above its limit, or length not the formula"
+-- never 4: the counts stand in the body, within their limits, and it has the length that they say
 pub record Shape (ws : List ℕ) : Type 0 where
   pub counts : 11 ≤ length ws
   -- "ni and no are at most 8, nt and na at most 32"
@@ -113,7 +113,7 @@ pub record Accepted (bytes : List ℕ) : Type 0 where
   pub shapes : Every Shape (taskBodies (wordsOf bytes))
   pub timing : Every Timing (planOf bytes .tasks)
   pub bodies : Every (Body (signalCount (wordsOf bytes))) (planOf bytes .tasks)
-  -- never 7: "two tasks with one priority"
+  -- never 7: no two have one priority
   pub priorities : Pairwise (λ x y. x .priority ≢ y .priority) (planOf bytes .tasks)
-  -- never 8: "a signal stands twice among all outputs"
+  -- never 8: no two outputs are one signal
   pub outputs : Pairwise _≢_ (allOutputs (planOf bytes .tasks))

@@ -95,7 +95,7 @@ bodyRule s k =
     && transitionsRule (length (k .inputs)) (k .transitions)
     && all (actionRule (length (k .inputs)) (length (k .outputs)) (lowest k)) (k .actions)
 
--- ---- "for each task in turn 4, 5, 6"
+-- ---- 4, 5 and 6 of one task
 abbrev pub oneTask : ℕ → ℕ → List ℕ → List Rule
 oneTask s i ws = rule 4 i (shapeRule ws) ∷ rule 5 i (timingRule (taskOf ws)) ∷ rule 6 i (bodyRule s (taskOf ws)) ∷ []
 
@@ -115,7 +115,7 @@ unfoldable pub afterAll : List ℕ → List ℕ → List ℕ
 afterAll seen [] = seen
 afterAll seen (x ∷ xs) = afterAll (x ∷ seen) xs
 
--- each task's numbers are new: "the later task of the first clash (smallest task number)" is the first whose are not
+-- each task's numbers are new: the later task of the first clash is the first whose are not
 unfoldable pub clashRules : ℕ → ℕ → List ℕ → List (List ℕ) → List Rule
 clashRules number i seen [] = []
 clashRules number i seen (xs ∷ rest) = rule number i (allNew seen xs) ∷ clashRules number (i + 1) (afterAll seen xs) rest
@@ -123,7 +123,7 @@ clashRules number i seen (xs ∷ rest) = rule number i (allNew seen xs) ∷ clas
 abbrev pub priorityOf : Task → List ℕ
 priorityOf k = k .priority ∷ []
 
--- ---- "Order: 1, 2, 3; then for each task in turn 4, 5, 6; then 7, 8"
+-- ---- the rules of a plan, in the order of the paper
 abbrev pub headRules : List ℕ → List Rule
 headRules bytes =
     rule 1 0 (sizeRule bytes) ∷ rule 2 0 (headRule (wordsOf bytes)) ∷ rule 3 0 (contentsRule (wordsOf bytes)) ∷ []

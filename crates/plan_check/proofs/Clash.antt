@@ -127,7 +127,7 @@ module _ (bytes : List ℕ) where
       (clash-is (clashNumber outputs) _ (rw (map-tab (λ b. numbersOf outputs (taskOf b)) (λ i. bodyOf (wordsOf bytes) (i + 1)) 0 (taskCount (wordsOf bytes))) at
       (tasks-below outputs (signalCount (wordsOf bytes)) 0 (taskBodies (wordsOf bytes)) h (zero-all (eachTask bytes) (tasks-numbered _ 0 (taskBodies (wordsOf bytes))) e))))
 
-  -- "Order: 1, 2, 3; then ..": a broken rule among the first three decides
+  -- a broken rule among the first three decides
   pub head-decides : eqb (firstBroken (headRules bytes) .number) 0 ≡ false → planVerdict bytes ≡ firstBroken (headRules bytes)
   unfolding planRules
   head-decides e = head-first ∙ rw e

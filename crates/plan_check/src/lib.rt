@@ -79,7 +79,7 @@ fn one_task(bytes: &[u8], task: u32, signals: u32) -> Answer
     plan_task::task_answer(task_part(bytes, task), signals, task)
 }
 
-// "for each task in turn 4, 5, 6"
+// Rules 4, 5 and 6 of each task.
 fn all_tasks(bytes: &[u8], signals: u32, tasks: u32) -> Answer
     ensures { λ r. ⌜ said r ≡ firstBroken (taskRules signals 0 (tab (λ i. bodyOf (wordsOf (now (bytes .entry))) (i + 1)) 0 tasks)) ⌝ }
 {

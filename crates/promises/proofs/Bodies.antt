@@ -46,14 +46,14 @@ after-in machine none h q = h
 after-in machine (some x) h q = q
 
 module _ (k : Task) (latched : List ℕ) (machine : ℕ) (held : List ℕ) where
-  -- "machine state 1..16 for a supervisor"
+  -- a supervisor's machine state stays in its range
   pub supervisor-machine : k .kind ≡ 1 → Every (λ x. Between 1 maxState (x .to)) (k .transitions) → Between 1 maxState machine
       → Between 1 maxState (body k latched machine held .machine)
   unfolding body supervise
   supervisor-machine e q h =
       rw (eq-eqb (k .kind) 1 e) (after-in machine (fires latched machine (k .transitions)) h (fires-one (λ x. Between 1 maxState (x .to)) latched machine (k .transitions) q))
 
-  -- "0 for a controller": it stays
+  -- a controller's stays
   pub controller-machine : k .kind ≢ 1 → body k latched machine held .machine ≡ machine
   unfolding body control
   controller-machine d = rw (ne-eqb (k .kind) 1 d)

@@ -1,4 +1,4 @@
--- "All ERRORs last": a task in ERROR is in ERROR after every further tick.
+-- A task in ERROR is in ERROR after every further tick.
 use Prim.Native.Nat.{ℕ, zero, suc, _<_}
 use mathlib.Core.Path.{_≡_, refl, sym, ap, _∙_}
 use mathlib.Core.Logic.{_⊎_, inl, inr}
@@ -19,6 +19,7 @@ use Rattle.tick.specs.Turns.{Call, ignored, deadlineOf, deadlineTurn, requests,
 use Rattle.tick.specs.Tick.{eventsAt, deadlines, tick}
 use Rattle.zero.specs.Zero.{ticks}
 use Rattle.zero.proofs.Accepted.{order-numbers}
+use Rattle.promises.specs.Promises.{InError}
 use Rattle.promises.proofs.View.{turned, tick-at, tick-length}
 
 -- step 1 leaves it
@@ -43,8 +44,7 @@ release-leaves t signals now i k x e = rw (e, call-ignored t now i k .1)
 
 -- and step 3 does not run it
 tick-leaves : (planBytes eventBytes : List ℕ) → planVerdict planBytes .number ≡ 0 → (i : ℕ) → i < length (planOf planBytes .tasks)
-    → (s : State) → i < length (s .tasks) → stateAt (s .tasks) i .status ≡ ERROR
-    → stateAt (tick (planOf planBytes) (eventsOf eventBytes) s .state .tasks) i .status ≡ ERROR
+    → (s : State) → i < length (s .tasks) → InError i s → InError i (tick (planOf planBytes) (eventsOf eventBytes) s .state)
 unfolding isActive
 tick-leaves planBytes eventBytes good i li s ls e = go (tick-at plan events s (order-numbers planBytes good) i li ls)
   where
@@ -63,14 +63,13 @@ tick-leaves planBytes eventBytes good i li s ls e = go (tick-at plan events s (o
 
     go : (stateAt (tick plan events s .state .tasks) i ≡ turned plan events s i)
         ⊎ ((isActive (turned plan events s i .status) ≡ true) × (stateAt (tick plan events s .state .tasks) i ≡ runTurn (s .tick) i (taskAt plan i) (turned plan events s i) .state))
-        → stateAt (tick plan events s .state .tasks) i .status ≡ ERROR
+        → InError i (tick plan events s .state)
     go (inl f) = ap (λ (x : TaskState). x .status) (f ∙ same) ∙ e
     go (inr f) = absurd (false≢true (ap isActive (sym e ∙ ap (λ (x : TaskState). x .status) (sym same)) ∙ f .0))
 
 -- so every ERROR lasts
 pub errors-last : (planBytes eventBytes : List ℕ) → planVerdict planBytes .number ≡ 0 → (i : ℕ) → i < length (planOf planBytes .tasks)
-    → (n : ℕ) (s : State) → i < length (s .tasks) → stateAt (s .tasks) i .status ≡ ERROR
-    → stateAt (ticks (tick (planOf planBytes) (eventsOf eventBytes)) n s .state .tasks) i .status ≡ ERROR
+    → (n : ℕ) (s : State) → i < length (s .tasks) → InError i s → InError i (ticks (tick (planOf planBytes) (eventsOf eventBytes)) n s .state)
 unfolding ticks
 errors-last planBytes eventBytes good i li zero s ls e = e
 errors-last planBytes eventBytes good i li (suc n) s ls e =

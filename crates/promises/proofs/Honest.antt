@@ -128,7 +128,7 @@ module _ (planBytes eventBytes : List ℕ) (good : planVerdict planBytes .number
       go true = room-not (tick (planOf planBytes) (eventsOf eventBytes)) room asked s
       go false = verdict-not asked
 
--- ---- "12: state not fit for this plan and these events": after a fresh start that accepts the plan and any calls in turn
+-- ---- never 12: after a fresh start that accepts the plan and any calls in turn
 module _ (planBytes eventBytes : List ℕ) (started : Started) (calls : List Called) (service : Service planBytes eventBytes started calls) where
   -- the plan has number 0
   good : planVerdict planBytes .number ≡ 0

@@ -23,7 +23,7 @@ use Rattle.zero.proofs.Lists.{every-weaker}
 use Rattle.promises.proofs.Timed.{Flight, StandsAt, stands, timed}
 use Rattle.promises.proofs.Bodies.{Ports, body-ports, supervisor-machine, controller-machine}
 
--- "latched inputs and held outputs beyond ni and no, are 0; machine state 1..16 for a supervisor, 0 for a controller"
+-- zeros beyond the inputs and the outputs, and the machine state of the kind
 pub record Kept (k : Task) (latched held : List ℕ) (machine : ℕ) : Type 0 where
   pub inputs : Ports (length (k .inputs)) latched
   pub outputs : Ports (length (k .outputs)) held

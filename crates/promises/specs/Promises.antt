@@ -14,6 +14,7 @@ use Rattle.trace.specs.Trace.{writeKind, writeEntry, traceAfter}
 use Rattle.trace.specs.declared.Entry.{Entry}
 use Rattle.state.specs.State.{valueAt, stateAt}
 use Rattle.state.specs.declared.State.{State}
+use Rattle.state.specs.declared.Status.the-variants.{ERROR}
 use Rattle.tick.specs.Tick.{tick}
 use Rattle.kernel.specs.Call.{Runs}
 use Rattle.zero.specs.Zero.{Called, recordsOf}
@@ -23,7 +24,7 @@ use Rattle.zero.specs.Zero.{Called, recordsOf}
 abbrev pub CalledFrom : List ℕ → List ℕ → State → Called → Type 0
 CalledFrom planBytes eventBytes s c = Runs planBytes eventBytes s (c .asked) (c .lent) (c .left) (c .outcome)
 
--- "0: accepted, or all asked ticks run"
+-- number 0: it ran all ticks that it was asked
 abbrev pub AllRun : Called → Type 0
 AllRun c = said (c .outcome .answer) .number ≡ 0
 
@@ -97,6 +98,11 @@ Elsewhere ps x = Every (λ p. p ≢ x .a) ps × (x .kind ≡ 4 → Every (λ p. 
 pub record OnlyMoves (k : Task) (ps : List ℕ) : Type 0 where
   pub outputs : Every (λ p. p < length (k .outputs)) ps
   pub once : Pairwise _≢_ ps
-  -- "Held output 0 becomes the new state; held output 1, 'updated'": a supervisor's first two are none of them
+  -- a supervisor's first two, its state and whether it is new, are none of them
   pub reports : k .kind ≡ 1 → Every (λ p. 2 ≤ p) ps
   pub actions : Every (λ x. MovesWithin ps x ⊎ Elsewhere ps x) (k .actions)
+
+-- ---- 4. "All ERRORs last."
+-- task i is in ERROR
+abbrev pub InError : ℕ → State → Type 0
+InError i s = stateAt (s .tasks) i .status ≡ ERROR

@@ -14,7 +14,7 @@ use Rattle.state.specs.declared.TaskState.{TaskState}
 use Rattle.state.specs.declared.State.{State}
 use Rattle.state.specs.State.{stateAt, sized}
 
--- "release instant r < tick and, with D > 0, tick ≤ r + D"
+-- "ACTIVE and FINISHED have release instant r < tick and, with deadline D > 0, tick ≤ r + D"
 abbrev pub deadlineRule : ℕ → Task → ℕ → Bool
 deadlineRule t k r = ltb r t && (eqb (k .deadline) 0 || leb t (r + k .deadline))
 
@@ -33,7 +33,7 @@ statusRule ACTIVE t k remaining r = between 1 (k .execution) remaining && inFlig
 statusRule FINISHED t k remaining r = eqb remaining 0 && not (eqb (k .deadline) 0) && inFlightRule t k r
 statusRule ERROR t k remaining r = eqb remaining 0 && eqb r 0
 
--- "from S on", "beyond ni and no, are 0"
+-- "signals from S on, and latched inputs and held outputs beyond ni and no, are 0"
 abbrev pub zerosFrom : ℕ → List ℕ → Bool
 zerosFrom n xs = all (λ x. eqb x 0) (drop n xs)
 
@@ -53,7 +53,7 @@ isReady ACTIVE = false
 isReady FINISHED = false
 isReady ERROR = false
 
--- "all-zero READY"
+-- a task from T on
 abbrev pub isIdle : TaskState → Bool
 isIdle x =
     isReady (x .status) && eqb (x .remaining) 0 && eqb (x .release) 0 && eqb (x .machine) 0 && zerosFrom 0 (x .latched)
@@ -66,7 +66,7 @@ taskRule plan t i x = cond (ltb i (length (plan .tasks))) (taskFits t (taskAt pl
 abbrev pub tasksFit : Plan → ℕ → List TaskState → Bool
 tasksFit plan t tasks = all (λ i. taskRule plan t i (stateAt tasks i)) (tab (λ i. i) 0 maxTasks)
 
--- "tick ≤ 1,000,000; event place = number of events with instant < tick"; "signals from S on .. are 0"
+-- "tick ≤ 1,000,000; event place = number of events with instant < tick", and all of the above
 unfoldable pub fits : Plan → List Event → State → Bool
 fits plan events s =
     sized s

@@ -1,4 +1,5 @@
--- Document 01, 'Task states', once more: when a state fits, as a person would write it from the paper.
+-- Document 01, 'Task states', once more: when a state fits, clause by clause, as a person would write it from the paper. The
+-- clauses are quoted in Fits.antt.
 use Prim.Native.Nat.{ℕ, _+_, _-_, _*_, _<_, _≤_}
 use mathlib.Core.Path.{_≡_}
 use mathlib.Core.List.{List}
@@ -14,18 +15,18 @@ use Rattle.state.specs.declared.Status.the-variants.{READY, ACTIVE, FINI
 use Rattle.state.specs.declared.TaskState.{TaskState}
 use Rattle.state.specs.declared.State.{State}
 
--- "8 latched inputs, 8 held outputs"
+-- eight of each
 pub record SizedTask (x : TaskState) : Type 0 where
   pub latched : length (x .latched) ≡ maxPorts
   pub held : length (x .held) ≡ maxPorts
 
--- "64 signals", and a record for each task that a plan can have
+-- all signals, and a record for each task that a plan can have
 pub record Sized (s : State) : Type 0 where
   pub signals : length (s .signals) ≡ maxSignals
   pub tasks : length (s .tasks) ≡ maxTasks
   pub ports : Every SizedTask (s .tasks)
 
--- "ACTIVE and FINISHED": "in flight"
+-- ACTIVE or FINISHED is in flight, the others are at rest
 abbrev pub InFlight : Status → Type 0
 InFlight status = (status ≡ ACTIVE) ⊎ (status ≡ FINISHED)
 
@@ -39,32 +40,32 @@ pub record Multiple (d n : ℕ) : Type 0 where
 
 -- before tick t: status, remaining ticks and release instant r of a task
 pub record Timed (t : ℕ) (k : Task) (status : Status) (remaining r : ℕ) : Type 0 where
-  -- "ACTIVE has remaining 1..execution, the others 0"
+  -- remaining ticks
   pub active : status ≡ ACTIVE → Between 1 (k .execution) remaining
   pub others : status ≢ ACTIVE → remaining ≡ 0
-  -- "ACTIVE and FINISHED have release instant r < tick and, with D > 0, tick ≤ r + D"
+  -- released before this tick, and the deadline is not past
   pub released : InFlight status → r < t
   pub inTime : InFlight status → 0 < k .deadline → t ≤ r + k .deadline
-  -- "FINISHED only where D > 0"
+  -- a deadline is given
   pub finished : status ≡ FINISHED → 0 < k .deadline
-  -- "a periodic task in flight has r ≥ offset, r − offset a multiple of the period, and tick ≤ r + period"
+  -- released where it was due, and not due since
   pub offset : InFlight status → 0 < k .period → k .offset ≤ r
   pub multiple : InFlight status → 0 < k .period → Multiple (k .period) (r - k .offset)
   pub inPeriod : InFlight status → 0 < k .period → t ≤ r + k .period
-  -- "READY and ERROR have r = 0"
+  -- no release instant
   pub atRest : AtRest status → r ≡ 0
 
 -- a task of the plan
 pub record TaskFits (t : ℕ) (k : Task) (x : TaskState) : Type 0 where
   pub timed : Timed t k (x .status) (x .remaining) (x .release)
-  -- "latched inputs and held outputs beyond ni and no, are 0"
+  -- zeros beyond its inputs and its outputs
   pub latched : (i : ℕ) → length (k .inputs) ≤ i → getD (x .latched) i 0 ≡ 0
   pub held : (i : ℕ) → length (k .outputs) ≤ i → getD (x .held) i 0 ≡ 0
-  -- "machine state 1..16 for a supervisor, 0 for a controller"
+  -- the machine state of each kind
   pub supervisor : k .kind ≡ 1 → Between 1 maxState (x .machine)
   pub controller : k .kind ≡ 2 → x .machine ≡ 0
 
--- "all-zero READY"
+-- a task from T on
 pub record AllZero (x : TaskState) : Type 0 where
   pub status : x .status ≡ READY
   pub remaining : x .remaining ≡ 0
@@ -73,16 +74,14 @@ pub record AllZero (x : TaskState) : Type 0 where
   pub latched : (i : ℕ) → getD (x .latched) i 0 ≡ 0
   pub held : (i : ℕ) → getD (x .held) i 0 ≡ 0
 
--- "A state fits (else 12) when"
+-- the state as a whole
 pub record Fits (plan : Plan) (events : List Event) (s : State) : Type 0 where
   pub sizes : Sized s
-  -- "tick ≤ 1,000,000"
   pub tick : s .tick ≤ maxTime
-  -- "event place = number of events with instant < tick"
   pub place : s .place ≡ passed (s .tick) events
-  -- "signals from S on .. are 0"
+  -- zeros from S on
   pub signals : (i : ℕ) → length (plan .signals) ≤ i → getD (s .signals) i 0 ≡ 0
   -- each task of the plan
   pub tasks : (i : ℕ) → i < length (plan .tasks) → TaskFits (s .tick) (taskAt plan i) (stateAt (s .tasks) i)
-  -- "tasks from T on are all-zero READY"
+  -- and from T on
   pub rest : (i : ℕ) → length (plan .tasks) ≤ i → AllZero (stateAt (s .tasks) i)

@@ -27,7 +27,7 @@ nowhere = record { status = READY; remaining = 0; release = 0; machine = 0; latc
 abbrev pub stateAt : List TaskState → ℕ → TaskState
 stateAt tasks i = getD tasks i nowhere
 
--- "all-zero READY"
+-- what a task from T on is
 abbrev pub idle : TaskState
 idle = record { status = READY; remaining = 0; release = 0; machine = 0; latched = replicate maxPorts 0; held = replicate maxPorts 0 }
 
@@ -42,8 +42,8 @@ freshTask signals k = record {
   held = pad maxPorts 0 (map (valueAt signals) (k .outputs));
 }
 
--- "the next tick's number and the event place, both 0 when fresh, and 64 signals: the plan's initial values when fresh, always
--- zero from S on"; "tasks from T on are all-zero READY"
+-- "The kernel has the next tick's number and the event place, both 0 when fresh, and 64 signals: the plan's initial values when
+-- fresh, always zero from S on."
 unfoldable pub fresh : Plan → State
 fresh plan = record {
   tick = 0;
@@ -57,10 +57,10 @@ unfoldable pub zeroState : State
 zeroState = record { tick = 0; place = 0; signals = replicate maxSignals 0; tasks = replicate maxTasks idle }
 
 -- ---- how many there are of each, as the arrays of the code have them
--- "8 latched inputs, 8 held outputs"
+-- eight of each
 abbrev pub sizedTask : TaskState → Bool
 sizedTask x = eqb (length (x .latched)) maxPorts && eqb (length (x .held)) maxPorts
 
--- "64 signals", and a record for each task that a plan can have
+-- all signals, and a record for each task that a plan can have
 unfoldable pub sized : State → Bool
 sized s = eqb (length (s .signals)) maxSignals && eqb (length (s .tasks)) maxTasks && all sizedTask (s .tasks)

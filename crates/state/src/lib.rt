@@ -54,6 +54,7 @@ pub enum Status {
     ERROR,
 }
 
+// "Each task also has: remaining ticks, release instant, machine state, 8 latched inputs, 8 held outputs."
 pub struct TaskState {
     pub status: Status,
     pub remaining: u32,

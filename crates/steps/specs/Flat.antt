@@ -167,7 +167,7 @@ unfoldable pub firstActive : List ℕ → List ℕ → ℕ → ℕ → ℕ
 firstActive rows tasks zero j = j
 firstActive rows tasks (suc n) j = cond (eqb (field tasks (taskOfRow rows j) 0) active) j (firstActive rows tasks n (j + 1))
 
--- "The most urgent ACTIVE task loses one remaining tick": the task of the first ACTIVE row of n, where there is one
+-- step 3: the task of the first ACTIVE row of n, where there is one
 unfoldable pub runsFlat : ℕ → List ℕ → List ℕ → ℕ → Arrays → Step
 runsFlat t ws rows n a =
     let j = firstActive rows (a .tasks) n 0 in

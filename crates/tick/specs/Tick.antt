@@ -65,7 +65,7 @@ unfoldable pub mostUrgent : Plan → (ℕ → Bool) → List ℕ → Option ℕ 
 mostUrgent plan test [] best = best
 mostUrgent plan test (i ∷ is) best = mostUrgent plan test is (cond (test i) (some (better plan i best)) best)
 
--- "The most urgent ACTIVE task"
+-- the running task
 abbrev pub running : Plan → List TaskState → Option ℕ
 running plan xs = mostUrgent plan (λ i. isActive (stateAt xs i .status)) (numbers plan) none
 
@@ -73,7 +73,7 @@ unfoldable pub visitIf : Plan → (ℕ → Task → TaskState → Turn) → Opti
 visitIf plan act none m = m
 visitIf plan act (some i) m = visit plan act i m
 
--- 3. "The most urgent ACTIVE task loses one remaining tick. At 0 its body runs once .."
+-- 3. "The most urgent ACTIVE task loses one remaining tick."
 abbrev pub runs : Plan → ℕ → Moment → Moment
 runs plan t m = visitIf plan (runTurn t) (running plan (m .tasks)) m
 
@@ -82,11 +82,12 @@ pub record Ticked : Type 0 where
   pub state : State
   pub entries : List Entry
 
--- the next tick's number; "event place = number of events with instant < tick"
+-- the next tick's number, and the event place before it
 abbrev pub ends : List Event → ℕ → Moment → Ticked
 ends events t m =
     record { state = record { tick = t + 1; place = passed (t + 1) events; signals = m .signals; tasks = m .tasks }; entries = m .entries }
 
+-- "At tick t": steps 0, 1, 2 and 3
 unfoldable pub tick : Plan → List Event → State → Ticked
 tick plan events s = ends events (s .tick) (runs plan (s .tick) (releases waits plan events (s .tick) (deadlines plan events s)))
 

@@ -33,29 +33,29 @@ quiet x = record { state = x; writes = []; entries = [] }
 abbrev pub becomes : Status → TaskState → TaskState
 becomes s x = record { status = s; remaining = 0; release = 0; machine = x .machine; latched = x .latched; held = x .held }
 
--- "its body runs once; .. it becomes FINISHED"
+-- the body has run: a task becomes FINISHED
 abbrev pub finish : Task → TaskState → TaskState
 finish k x =
     let left = body k (x .latched) (x .machine) (x .held) in
     record { status = FINISHED; remaining = 0; release = x .release; machine = left .machine; latched = x .latched; held = left .held }
 
--- "all held outputs to its signals", "in position order"
+-- each held output to its signal, in position order
 unfoldable pub writesOf : List ℕ → List ℕ → List Write
 writesOf [] held = []
 writesOf (s ∷ ss) [] = []
 writesOf (s ∷ ss) (v ∷ vs) = record { signal = s; value = v } ∷ writesOf ss vs
 
--- "writes all held outputs to its signals and becomes READY"; "2 write (one for each output, in position order)"
+-- a task writes and becomes READY; a record for each output
 abbrev pub writeOut : ℕ → ℕ → Task → TaskState → Turn
 writeOut t i k x =
     let ws = writesOf (k .outputs) (x .held) in
     record { state = becomes READY x; writes = ws; entries = map (λ w. writeEntry t i (w .signal) (w .value)) ws }
 
--- "becomes ERROR", with one record
+-- a task becomes ERROR, with one record
 abbrev pub fail : ℕ → ℕ → ℕ → TaskState → Turn
 fail t kind i x = record { state = becomes ERROR x; writes = []; entries = entry t kind i ∷ [] }
 
--- ---- 1. "each task in flight with D > 0 and t = r + D"
+-- ---- 1. whether a deadline is given, and is now
 abbrev pub atDeadline : ℕ → Task → ℕ → Bool
 atDeadline t k r = not (eqb (k .deadline) 0) && eqb t (r + k .deadline)
 
@@ -136,7 +136,7 @@ answer start t signals i k x (ignored n) = record { state = x; writes = []; entr
 abbrev pub releaseTurn : (Task → TaskState → TaskState) → ℕ → List ℕ → List Event → ℕ → Task → TaskState → Turn
 releaseTurn start t signals now i k x = answer start t signals i k x (callOf t now i k (x .status))
 
--- ---- 3. "The most urgent ACTIVE task loses one remaining tick."
+-- ---- 3. whether a task is ACTIVE
 unfoldable pub isActive : Status → Bool
 isActive READY = false
 isActive ACTIVE = true

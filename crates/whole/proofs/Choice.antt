@@ -130,7 +130,7 @@ module _ (plan : Plan) (test : ℕ → Bool) where
         let high = above i j h g in
         ap some (once i j (h .stands) (λ e. g .stands (perm-every _ same e)) (omega arith))
 
-    -- "The most urgent" is the first "In order of priority"
+    -- the most urgent is the first in order of priority
     pub urgent-first : Pairwise (λ i j. priority i ≤ priority j) is → mostUrgent plan test js none ≡ firstOf test is
     urgent-first sorted =
         sym (one-choice (firstOf test is) (mostUrgent plan test js none) (first-chosen is sorted)

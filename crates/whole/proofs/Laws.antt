@@ -107,7 +107,7 @@ module _ (plan : Plan) (act : ℕ → Arrays → Step) (turn : ℕ → Task → 
 abbrev pub IsRow : Plan → List ℕ → ℕ → ℕ → Type 0
 IsRow plan rows j i = (taskOfRow rows j ≡ i) × RowOf rows j (taskAt plan (taskOfRow rows j))
 
--- all rows of a schedule, "In order of priority"
+-- all rows of a schedule, in order of priority
 module _ (plan : Plan) (rows : List ℕ) (n : ℕ) (said : Rows plan rows n) (act : ℕ → Arrays → Step) (turn : ℕ → Task → TaskState → Turn) (Good : Arrays → Type 0)
     (one : (j i : ℕ) (a : Arrays) (es : List Entry) → IsRow plan rows j i → Good a → visit plan turn i (momentOf a es) ≡ landed es (act j a))
     (stays : (j i : ℕ) (a : Arrays) → IsRow plan rows j i → Good a → Good (act j a .arrays)) where

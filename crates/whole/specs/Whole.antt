@@ -17,11 +17,11 @@ use Rattle.tick.specs.Tick.{Moment}
 use Rattle.steps.specs.Flat.{statusOf, taskOfRow}
 
 -- ---- the state that the arrays hold
--- the eight ports of task i: "8 latched inputs, 8 held outputs"
+-- the eight ports of task i
 abbrev pub portsIn : List ℕ → ℕ → List ℕ
 portsIn ports i = tab (λ p. getD ports (i * 8 + p) 0) 0 maxPorts
 
--- "Each task also has: remaining ticks, release instant, machine state, 8 latched inputs, 8 held outputs."
+-- the state of task i
 abbrev pub taskIn : Arrays → ℕ → TaskState
 taskIn a i = record {
   status = statusOf (field (a .tasks) i 0);
@@ -86,7 +86,7 @@ pub record RowOf (rows : List ℕ) (j : ℕ) (k : Task) : Type 0 where
   pub inputs : length (k .inputs) ≤ maxPorts
   pub outputs : length (k .outputs) ≤ maxPorts
 
--- the first n rows are those of the plan's tasks, "In order of priority"
+-- the first n rows are those of the plan's tasks, in order of priority
 pub record Rows (plan : Plan) (rows : List ℕ) (n : ℕ) : Type 0 where
   pub count : n ≡ length (order plan)
   pub number : (j : ℕ) → j < n → taskOfRow rows j ≡ getD (order plan) j 0

@@ -33,7 +33,7 @@ module _ (planBytes : List ℕ) (good : planVerdict planBytes .number ≡ 0) whe
       (every-weaker (λ i. Timing (taskAt plan i)) (λ i. Between 1 maxPriority (taskAt plan i .priority)) (λ i t. t .priority) (numbers plan)
       (each-task Timing plan (plans.accepted planBytes good .timing)))
 
-  -- never 8: "a signal stands twice among all outputs"
+  -- never 8: no two outputs are one signal
   pub outputs-once : Pairwise _≢_ (allOutputs (plan .tasks))
   outputs-once = plans.accepted planBytes good .outputs
 

@@ -120,7 +120,7 @@ fresh-calm : (plan : Plan) → Every Calm (fresh plan .tasks)
 unfolding fresh
 fresh-calm plan = tab-calm _ (getD-ready (plan .signals) (plan .tasks)) 0 maxTasks
 
--- "Nothing misses in it"
+-- so no run of it has one
 pub nothing-misses : (planBytes eventBytes : List ℕ) (n : ℕ) → NoMiss (zeroRun planBytes eventBytes n .entries)
 nothing-misses planBytes eventBytes n =
     ticks-calm (planOf planBytes) (eventsOf eventBytes) n (fresh (planOf planBytes)) (fresh-calm (planOf planBytes))

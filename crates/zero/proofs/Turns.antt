@@ -20,7 +20,7 @@ use Rattle.tick.specs.Tick.{writeAll}
 use Rattle.zero.specs.Zero.{own}
 use Rattle.zero.proofs.Order.{Disjoint, commute}
 
--- ---- "a signal stands twice among all outputs" is refused: the outputs of two tasks have none in common
+-- ---- never 8: the outputs of two tasks have none in common
 -- what holds of all outputs holds of each task's
 each-outputs : (P : ℕ → Type 0) (ks : List Task) (j : ℕ) → Every P (allOutputs ks) → Every P (getD ks j noTask .outputs)
 unfolding allOutputs
