@@ -30,10 +30,10 @@ pub fn fresh_start(plan: &[u8]) -> Started
 {
     let answer = plan_check::check(plan);
     if answers::accepted(answer) {
-        let state = state::fresh_state(plan);
+        let state = state_fresh::fresh_state(plan);
         return Started { answer, state };
     }
-    let state = state::zero_state();
+    let state = state_fresh::zero_state();
     Started { answer, state }
 }
 
@@ -53,7 +53,7 @@ fn call_answer(plan: &[u8], events: &[u8], state: State, asked: u32) -> Answer
     if !answers::accepted(answer) {
         return answer;
     }
-    if !state::fits(plan, events, state) {
+    if !state_fits::fits(plan, events, state) {
         return Answer::StateUnfit;
     }
     if !ticks_hold(state.tick, asked) {

@@ -5,31 +5,18 @@ ghost use Rattle.limits.specs.Limits.{maxTasks};
 ghost use Rattle.words.specs.Words.{wordsOf};
 ghost use Rattle.plan.specs.File.{taskOf};
 ghost use Rattle.body.specs.Body.{body};
-ghost use Rattle.urgent.specs.Urgent.{fewTasks};
 ghost use Rattle.arrays.specs.Arrays.{Does};
-ghost use Rattle.steps.specs.Flat.{portsOf, work, firstActive, runsFlat};
+ghost use Rattle.steps.specs.Flat.{portsOf, work, runsFlat};
 ghost use Rattle.step_running.specs.Finish.{Ran, Finished};
-ghost use Rattle.step_running.specs.Records.{recordOf};
 use arrays::put;
 use arrays::row_field;
 use arrays::task_field;
 use step_deadlines::reset_task;
 use step_deadlines::write_row;
-use urgent::TaskRecord;
 
 const PORTS: usize = limits::PORTS as usize;
 
-const TASKS: usize = limits::TASKS as usize;
-
-const FEW: usize = urgent::FEW as usize;
-
 fn smaller(a: usize, b: usize) -> usize
-    ensures { λ r. ⌜ r ≡ min a b ⌝ }
-{
-    if a <= b { a } else { b }
-}
-
-fn smallest(a: u32, b: u32) -> u32
     ensures { λ r. ⌜ r ≡ min a b ⌝ }
 {
     if a <= b { a } else { b }
@@ -107,64 +94,6 @@ fn work_row(
     at
 }
 
-// The record of the task of a row: rows stand in order of priority, so the row is its rank.
-fn record_of(rows: &[u32], row: u32, tasks: &[u32]) -> TaskRecord
-    ensures { λ r. ⌜ r ≡ recordOf (now (rows .entry)) (now (tasks .entry)) row ⌝ }
-{
-    let task = row_field(rows, row, 0);
-    TaskRecord {
-        status: task_field(tasks, task, 0),
-        rank: row,
-    }
-}
-
-// The least rank of the records of a few rows that are ACTIVE.
-fn least_of_few(rows: &[u32], count: u32, tasks: &[u32]) -> u32
-    requires { ⌜ count ≤ fewTasks ⌝ }
-    ensures { λ r. ⌜ min r count ≡ firstActive (now (rows .entry)) (now (tasks .entry)) count 0 ⌝ }
-{
-    let idle = TaskRecord {
-        status: arrays::READY,
-        rank: 0,
-    };
-    let mut records = [idle; FEW];
-    let mut j: u32 = 0;
-    while j < count {
-        records[j as usize] = record_of(rows, j, tasks);
-        j += 1;
-    }
-    urgent::urgent_of_few(records)
-}
-
-// The same of up to all rows.
-fn least_of_all(rows: &[u32], count: u32, tasks: &[u32]) -> u32
-    requires { ⌜ count ≤ maxTasks ⌝ }
-    ensures { λ r. ⌜ min r count ≡ firstActive (now (rows .entry)) (now (tasks .entry)) count 0 ⌝ }
-{
-    let idle = TaskRecord {
-        status: arrays::READY,
-        rank: 0,
-    };
-    let mut records = [idle; TASKS];
-    let mut j: u32 = 0;
-    while j < count {
-        records[j as usize] = record_of(rows, j, tasks);
-        j += 1;
-    }
-    urgent::urgent_of(records)
-}
-
-// The first of the rows whose task is ACTIVE, and the row past them where there is none.
-fn running_row(rows: &[u32], count: u32, tasks: &[u32]) -> u32
-    requires { ⌜ count ≤ maxTasks ⌝ }
-    ensures { λ r. ⌜ r ≡ firstActive (now (rows .entry)) (now (tasks .entry)) count 0 ⌝ }
-{
-    if count <= urgent::FEW {
-        return smallest(least_of_few(rows, count, tasks), count);
-    }
-    smallest(least_of_all(rows, count, tasks), count)
-}
-
 // Step 3: the most urgent ACTIVE task runs for a tick, where there is one; the word at which its records end.
 pub fn run_urgent(
     plan: &[u8],
@@ -183,7 +112,7 @@ pub fn run_urgent(
         (runsFlat t (wordsOf (now (plan .entry))) (now (rows .entry)) count (record { signals = now (signals .entry); tasks = now (tasks .entry); latched = now (latched .entry); held = now (held .entry) })) ⌝ }
     ensures near { λ r. ⌜ r ≤ from + 2 ^ 35 ⌝ }
 {
-    let row = running_row(rows, count, tasks);
+    let row = choice::running_row(rows, count, tasks);
     if row < count {
         return work_row(
             plan,
