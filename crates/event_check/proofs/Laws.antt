@@ -1,6 +1,6 @@
--- The marks of the written signals, one task at a time; and what rule 9 says of the number of records.
-use Prim.Native.Nat.{ℕ, _+_, _-_, _/_, _<_, _≤_}
-use mathlib.Core.Path.{_≡_, refl, sym, _∙_}
+-- The marks of the written signals and of the event-driven tasks, one task at a time; and what rule 9 says of the number of records.
+use Prim.Native.Nat.{ℕ, suc, _+_, _-_, _/_, _<_, _≤_}
+use mathlib.Core.Path.{_≡_, refl, sym, ap, _∙_}
 use mathlib.Core.Bool.{true}
 use mathlib.Core.List.{List, [], _∷_, _++_}
 use native.Mathlib.Omega.{arith}
@@ -12,6 +12,7 @@ use Rattle.marks.specs.Marks.{mark}
 use Rattle.plan.specs.File.{Task, allOutputs}
 use Rattle.plan_check.specs.Clash.{markAll}
 use Rattle.events.specs.Events.{eventSizeRule, eventCount}
+use Rattle.event_check.specs.Targets.{withDriven, drivenBy}
 
 mark-append : (marks : ℕ) (xs ys : List ℕ) → markAll marks (xs ++ ys) ≡ markAll (markAll marks xs) ys
 unfolding markAll
@@ -26,6 +27,12 @@ module _ (marks : ℕ) (f : ℕ → Task) (n k : ℕ) where
   pub written-done : n ≤ k → markAll marks (allOutputs (tab f k (n - k))) ≡ marks
   unfolding allOutputs markAll
   written-done h = rw (tab-done f n k h)
+
+pub driven-more : (ws : List ℕ) (n : ℕ) → drivenBy ws (n + 1) ≡ withDriven ws n (drivenBy ws n)
+unfolding drivenBy
+driven-more ws n =
+    let e : n + 1 ≡ suc n = omega arith in
+    ap (drivenBy ws) e
 
 pub few-records : (bytes : List ℕ) → eventSizeRule bytes ≡ true → length bytes / 16 < 4294967296
 few-records bytes e = let h = (simp tests at e) .1 in omega arith

@@ -1,6 +1,7 @@
 -- What a call that no rule refuses gives: the plan and the events are accepted, the state fits, and there is time.
 use Prim.Native.Nat.{ℕ, _+_, _*_, _<_, _≤_, _^_}
 use mathlib.Core.Path.{_≡_, refl, sym, ap, _∙_}
+use mathlib.Core.Logic.{_≢_}
 use mathlib.Core.Bool.{Bool, true, false, cond}
 use mathlib.Core.List.{List}
 use native.Mathlib.Omega.{arith}
@@ -8,12 +9,14 @@ use lib.ListN.{length}
 use lib.Dec.{eqb, leb}
 use borrow.Author.Tests.{eqb-true, leb-true, eq-eqb}
 use Rattle.limits.specs.Limits.{maxTasks, maxTime}
+use Rattle.lists.proofs.Tests.{pairwise-once}
 use Rattle.answers.specs.Answers.{Verdict, verdict}
 use Rattle.plan.specs.File.{planOf}
+use Rattle.plan.specs.Order.{order}
 use Rattle.plan.specs.Rules.{planVerdict}
 use Rattle.plan.proofs.Acceptance as plans
 use Rattle.plan_schedule.specs.Schedule.{scheduleOf}
-use Rattle.plan_schedule.proofs.Accepted.{tasks-few, schedule-count}
+use Rattle.plan_schedule.proofs.Accepted.{tasks-few, accepted-distinct, accepted-length, schedule-count, schedule-says}
 use Rattle.events.specs.Events.{eventsOf, passed, eventCount, eventsVerdict}
 use Rattle.events.proofs.Acceptance as lists
 use Rattle.state.specs.Fits.{fits}
@@ -24,6 +27,7 @@ use Rattle.state.proofs.Fitting.{fits-exactly}
 use Rattle.tick.specs.Tick.{tick}
 use Rattle.step.specs.Step.{Sizes}
 use Rattle.step.specs.declared.Clock.{Clock}
+use Rattle.quiet.specs.Quiet.{Distinct}
 use Rattle.run.specs.Run.{Asked, runFlat}
 use Rattle.whole.specs.Whole.{apart}
 use Rattle.whole.proofs.Apart.{apart-sized, whole-apart}
@@ -75,6 +79,16 @@ module _ (planBytes eventBytes : List ℕ) (s : State) (asked : ℕ) (good : cal
         ticks = both .1;
         word = refl;
       }
+
+  -- no two rows are of the same task
+  pub rows-distinct : Distinct (scheduleOf planBytes .rows) (scheduleOf planBytes .count)
+  rows-distinct j k hj hk e =
+      let count = schedule-count planBytes plan-good in
+      let all = accepted-length planBytes plan-good in
+      let first = schedule-says planBytes plan-good j (omega arith) .task in
+      let second = schedule-says planBytes plan-good k (omega arith) .task in
+      pairwise-once _≢_ 0 (order (planOf planBytes)) (accepted-distinct planBytes plan-good) j k (omega arith) (omega arith)
+      (λ other. other (sym first ∙ e ∙ second)) (λ other. other (sym second ∙ sym e ∙ first))
 
   -- and what it comes to is the call
   pub call-is : (room : ℕ) → call planBytes eventBytes s asked room ≡ ranOf (s .tick) (runFlat (known planBytes eventBytes plan-good events-good) room asked (s .tick) (s .place) (apart s))

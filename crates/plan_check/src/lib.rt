@@ -8,7 +8,7 @@ ghost use Rattle.lists.specs.Lists.{tab};
 ghost use Rattle.answers.specs.Answers.{said, verdict, firstBroken, orElse};
 ghost use Rattle.plan.specs.File.{taskCount, values, bodyOf, bodyPart, taskOf};
 ghost use Rattle.plan.specs.Rules.{sizeRule, headRule, chained, contentsRule, oneTask, taskRules, headRules, planVerdict};
-ghost use Rattle.plan_task.specs.Places.{far};
+ghost use Rattle.plan_check.specs.Places.{far};
 ghost use Rattle.plan_check.specs.Clash.{newTo, markAll, markedBy, clashNumber, numbersOf, clashOf};
 use answers::Answer;
 use words::word;

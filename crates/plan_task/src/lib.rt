@@ -1,16 +1,17 @@
 // Document 01, 'The plan file': the rules 4, 5 and 6 of one task, read from the part of the file that is its body.
 ghost use mathlib.Core.Path.{_≡_};
-ghost use Prim.Native.Nat.{_+_, _*_, _<_};
+ghost use Prim.Native.Nat.{_+_, _*_, _/_, _<_, _≤_};
 ghost use mathlib.Core.Bool.{cond, _||_};
+ghost use lib.ListN.{length};
 ghost use lib.Dec.{eqb, ltb};
 ghost use Rattle.words.specs.Words.{wordsOf};
 ghost use Rattle.lists.specs.Lists.{all};
 ghost use Rattle.answers.specs.Answers.{said, firstBroken};
-ghost use Rattle.plan_task.specs.Places.{far};
 ghost use Rattle.plan_task.specs.Orders.{slots, slotOf};
-ghost use Rattle.plan.specs.File.{taskOf, values, transitionAt, transitionsFrom, actionAt, actionsFrom, inputsAt};
+ghost use Rattle.plan.specs.File.{taskOf, values, transitionAt, transitionsFrom, actionAt, actionsFrom, inputsAt, actionsAt, actionCount};
 ghost use Rattle.plan.specs.Rules.{shapeRule, timingRule, supervisorRule, controllerRule, transitionRule, transitionsRule, actionRule, lowest, bodyRule, oneTask};
 use answers::Answer;
+use words::known;
 use words::word;
 
 // A word of marks for each state, numbered as the states are, from 1 on; word 0 is no state's.
@@ -87,13 +88,13 @@ fn signals_hold(part: &[u8], skip: u32, count: u32, signals: u32) -> bool
 
 // Rule 6, one transition by itself.
 fn transition_holds(part: &[u8], at: usize, inputs: u32) -> bool
-    requires { ⌜ at < far * 2 ⌝ }
+    requires { ⌜ at * 4 + 16 ≤ length (now part) ⌝ }
     ensures { λ r. ⌜ r ≡ transitionRule inputs (transitionAt (wordsOf (now (part .entry))) at) ⌝ }
 {
-    let from = word(part, at);
-    let input = word(part, at + 1);
-    let order = word(part, at + 2);
-    let to = word(part, at + 3);
+    let from = known(part, at);
+    let input = known(part, at + 1);
+    let order = known(part, at + 2);
+    let to = known(part, at + 3);
     ((1 <= from) & (from <= limits::STATES))
         & ((1 <= to) & (to <= limits::STATES))
         & (input < inputs)
@@ -114,7 +115,7 @@ fn slot_of(from: u32) -> usize
 
 // Rule 6, the transitions. Orders in range are below 64, so that one word holds the marks of all orders of a state, and one pass finds an order that stands twice.
 fn transitions_hold(part: &[u8], first: usize, count: u32, inputs: u32) -> bool
-    requires { ⌜ first < far ⌝ }
+    requires { ⌜ first + count * 4 ≤ length (now part) / 4 ⌝ }
     ensures { λ r. ⌜ r ≡ transitionsRule inputs (transitionsFrom (wordsOf (now (part .entry))) first count) ⌝ }
 {
     let mut seen = [0u64; SLOTS];
@@ -123,8 +124,8 @@ fn transitions_hold(part: &[u8], first: usize, count: u32, inputs: u32) -> bool
     while j < count {
         let at = first + j as usize * 4;
         let one = transition_holds(part, at, inputs);
-        let slot = slot_of(word(part, at));
-        let order = word(part, at + 2);
+        let slot = slot_of(known(part, at));
+        let order = known(part, at + 2);
         let before = seen[slot];
         let old = marks::is_marked(before, order);
         let after = marks::with_mark(before, order);
@@ -144,14 +145,14 @@ struct Ports {
 
 // Rule 6, one action.
 fn action_holds(part: &[u8], at: usize, ports: Ports) -> bool
-    requires { ⌜ at < far * 2 ⌝ }
+    requires { ⌜ at * 4 + 20 ≤ length (now part) ⌝ }
     ensures { λ r. ⌜ r ≡ actionRule (ports .inputs) (ports .outputs) (ports .lowest) (actionAt (wordsOf (now (part .entry))) at) ⌝ }
 {
-    let state = word(part, at);
-    let kind = word(part, at + 1);
-    let a = word(part, at + 2);
-    let b = word(part, at + 3);
-    let c = word(part, at + 4);
+    let state = known(part, at);
+    let kind = known(part, at + 1);
+    let a = known(part, at + 2);
+    let b = known(part, at + 3);
+    let c = known(part, at + 4);
     let second = ((kind == 4) & (ports.lowest <= b) & (b < ports.outputs) & (b != a))
         | ((kind != 4) & (b == 0));
     ((1 <= state) & (state <= limits::STATES))
@@ -164,7 +165,7 @@ fn action_holds(part: &[u8], at: usize, ports: Ports) -> bool
 
 // Rule 6, the actions.
 fn actions_hold(part: &[u8], first: usize, count: u32, ports: Ports) -> bool
-    requires { ⌜ first < far ⌝ }
+    requires { ⌜ first + count * 5 ≤ length (now part) / 4 ⌝ }
     ensures { λ r. ⌜ r ≡ all (actionRule (ports .inputs) (ports .outputs) (ports .lowest)) (actionsFrom (wordsOf (now (part .entry))) first count) ⌝ }
 {
     let mut good = true;
@@ -186,6 +187,7 @@ fn lowest_output(kind: u32) -> u32
 
 // Rule 6.
 fn body_holds(part: &[u8], signals: u32) -> bool
+    requires { ⌜ actionsAt (wordsOf (now part)) + actionCount (wordsOf (now part)) * 5 ≡ length (now part) / 4 ⌝ }
     ensures { λ r. ⌜ r ≡ bodyRule signals (taskOf (wordsOf (now (part .entry)))) ⌝ }
 {
     let kind = word(part, 5);

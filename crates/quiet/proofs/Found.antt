@@ -54,6 +54,10 @@ module _ (rows : List ℕ) (count : ℕ) (ws : List ℕ) (records place t left :
 pub bounded : (event wake first past most t left : ℕ) → first ≡ min event wake → past ≡ first - t → most ≡ min past left → most ≡ min (min event wake - t) left
 bounded event wake first past most t left e p m = rw (m, p, e)
 
+-- the running task has a tick to spare after those passed over
+pub spared : (most rest less n : ℕ) → less ≡ rest - 1 → n ≡ min most less → (n ≡ 0 → ⊥) → n < rest
+spared most rest less n l m h = omega arith
+
 -- ---- the first ACTIVE row, one row at a time: k seen of n
 module _ (rows tasks : List ℕ) (n k : ℕ) where
   pub first-more : k < n

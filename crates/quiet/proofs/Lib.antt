@@ -2,3 +2,5 @@ pub mod Due
 pub mod Rows
 pub mod Found
 pub mod Ticks
+pub mod Wakes
+pub mod Called

@@ -69,7 +69,7 @@ module _ (rows tasks : List ℕ) (j t : ℕ) where
   waits = eqb status ready || eqb (rowField rows j 2) 0
 
   -- it is event-driven
-  asked-quiet : (b : Bool) → periodicCall (statusOf status) (isDue t (rowField rows j 4) (rowField rows j 1)) (eqb (rowField rows j 2) 0) ≡ ignored 0
+  pub asked-quiet : (b : Bool) → periodicCall (statusOf status) (isDue t (rowField rows j 4) (rowField rows j 1)) (eqb (rowField rows j 2) 0) ≡ ignored 0
       → cond b (eventCall (statusOf status) (requests (taskOfRow rows j) [])) (periodicCall (statusOf status) (isDue t (rowField rows j 4) (rowField rows j 1)) (eqb (rowField rows j 2) 0)) ≡ ignored 0
   asked-quiet true h = none-asked (statusOf status) (taskOfRow rows j)
   asked-quiet false h = h

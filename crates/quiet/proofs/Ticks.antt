@@ -39,7 +39,7 @@ module _ (rows : List ℕ) (tasks tasks′ : List ℕ) (same : (k : ℕ) → fie
   quiet-same j t e q = record { deadline = rw (same (taskOfRow rows j), e) (q .deadline); call = rw (same (taskOfRow rows j)) (q .call) }
 
 -- a value that is not 0 stands in the list
-in-range : (l : List ℕ) (i : ℕ) → 0 < getD l i 0 → i < length l
+pub in-range : (l : List ℕ) (i : ℕ) → 0 < getD l i 0 → i < length l
 in-range [] i h = absurd (omega arith)
 in-range (x ∷ xs) zero h = omega arith
 in-range (x ∷ xs) (suc i) h = let b = in-range xs i h in omega arith

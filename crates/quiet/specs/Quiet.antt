@@ -1,13 +1,16 @@
 -- Ticks in which nothing can happen but that the running task loses a tick.
 use Prim.Native.Nat.{ℕ, zero, suc, _+_, _-_, _<_, _≤_}
 use mathlib.Core.Path.{_≡_}
-use mathlib.Core.Bool.{Bool, false, cond, _&&_, _||_}
+use mathlib.Core.Bool.{Bool, true, false, cond, _&&_, _||_}
 use mathlib.Core.List.{List, []}
+use lib.ListN.{getD}
 use lib.Dec.{ltb, eqb}
+use Rattle.marks.specs.Marks.{has}
 use Rattle.events.specs.Events.{eventOf}
 use Rattle.arrays.specs.Arrays.{active, finished, field, withField, rowField}
 use Rattle.tick.specs.Turns.{ignored}
 use Rattle.steps.specs.Flat.{taskOfRow, endsNow, endFrom, isDue, callOfRow, firstActive}
+use Rattle.step.specs.Step.{Given, placeAfter}
 
 -- "each task in flight": the numbers of its statuses
 abbrev pub inFlight : ℕ → Bool
@@ -21,6 +24,36 @@ pub record RowQuiet (rows tasks : List ℕ) (j t : ℕ) : Type 0 where
 -- so do n rows, from tick t up to instant w
 abbrev pub RowsQuiet : List ℕ → List ℕ → ℕ → ℕ → ℕ → Type 0
 RowsQuiet rows tasks n t w = (j : ℕ) → j < n → (t′ : ℕ) → t ≤ t′ → t′ < w → RowQuiet rows tasks j t′
+
+-- each of n rows has an instant: from tick t up to there it does nothing in steps 1 and 2, no event coming
+abbrev pub Wakes : List ℕ → List ℕ → ℕ → ℕ → List ℕ → Type 0
+Wakes rows tasks n t wakes = (j : ℕ) → j < n → (t′ : ℕ) → t ≤ t′ → t′ < getD wakes j 0 → RowQuiet rows tasks j t′
+
+-- so have those of them whose bit does not stand in a word
+abbrev pub OthersWake : ℕ → List ℕ → List ℕ → ℕ → ℕ → List ℕ → Type 0
+OthersWake calls rows tasks n t wakes = (j : ℕ) → j < n → has calls j ≡ false → (t′ : ℕ) → t ≤ t′ → t′ < getD wakes j 0 → RowQuiet rows tasks j t′
+
+-- of n numbers those of which a test holds have their bit in a word
+abbrev pub AllIn : (ℕ → Bool) → ℕ → ℕ → Type 0
+AllIn test n w = (j : ℕ) → j < n → has w j ≡ false → test j ≡ false
+
+-- of n rows those whose bit does not stand in a word have their instant after tick t, and where events come are not among the
+-- event-driven ones
+abbrev pub OthersLater : ℕ → ℕ → ℕ → List ℕ → ℕ → Bool → Type 0
+OthersLater calls n t wakes driven come = (j : ℕ) → j < n → has calls j ≡ false → (t < getD wakes j 0) × (come ≡ true → has driven j ≡ false)
+
+-- no two of n rows are of the same task
+abbrev pub Distinct : List ℕ → ℕ → Type 0
+Distinct rows n = (j k : ℕ) → j < n → k < n → taskOfRow rows j ≡ taskOfRow rows k → j ≡ k
+
+-- a row may go without its turn at a tick whose events start at a place: it does nothing, and where events come it is periodic
+pub record MayRest (g : Given) (t place : ℕ) (tasks : List ℕ) (j : ℕ) : Type 0 where
+  pub quiet : RowQuiet (g .rows) tasks j t
+  pub periodic : (placeAfter g t place ≡ place → ⊥) → rowField (g .rows) j 1 ≡ 0 → ⊥
+
+-- so may every row whose bit does not stand in a word
+abbrev pub OthersRest : ℕ → Given → ℕ → ℕ → List ℕ → Type 0
+OthersRest calls g t place tasks = (j : ℕ) → j < g .count → has calls j ≡ false → MayRest g t place tasks j
 
 -- a periodic task is not due from tick t up to instant w
 abbrev pub NotDue : ℕ → ℕ → ℕ → ℕ → Type 0

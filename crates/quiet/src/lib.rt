@@ -1,14 +1,25 @@
-// Ticks in which nothing can happen but that the running task loses a tick are passed over in one move: no event, no deadline
-// and no release falls in them, and the running task is not done in them.
+// When rows have something to do. In a tick only rows whose instant has come need their turn, and ticks in which nothing can
+// happen but that the running task loses a tick are passed over in one move: no event, no deadline and no release falls in them,
+// and the running task is not done in them.
 ghost use mathlib.Core.Path.{_≡_};
+ghost use mathlib.Core.Bool.{cond};
+ghost use lib.ListN.{getD};
+ghost use lib.Dec.{leb, eqb};
 ghost use Prim.Native.Nat.{ℕ, _+_, _-_, _*_, _<_, _≤_, _^_, min};
+ghost use Rattle.limits.specs.Limits.{maxTasks};
 ghost use Rattle.words.specs.Words.{wordsOf};
 ghost use Rattle.events.specs.Events.{eventCount};
+ghost use Rattle.arrays.specs.Arrays.{rowField};
 ghost use Rattle.steps.specs.Flat.{endFrom, firstActive};
-ghost use Rattle.quiet.specs.Quiet.{RowQuiet, RowsQuiet, NotDue, Passed};
+ghost use Rattle.quiet.specs.Quiet.{RowQuiet, NotDue, Wakes, OthersWake, OthersLater, AllIn, Passed};
 use arrays::row_field;
 use arrays::task_field;
 use words::word;
+
+const TASKS: usize = limits::TASKS as usize;
+
+// Up to so many rows a loop over the rows is shorter than one over all lanes.
+const FEW: u32 = 4;
 
 // Above every instant that a tick can have.
 const NEVER: u32 = limits::TOP_VALUE as u32;
@@ -69,18 +80,148 @@ fn row_wake(rows: &[u32], row: u32, tasks: &[u32], t: u32) -> u32
     NEVER
 }
 
-// An instant from t on before which so many rows do nothing in steps 1 and 2, no event coming.
-fn next_wake(rows: &[u32], count: u32, tasks: &[u32], t: u32) -> u32
-    ensures { λ r. ⌜ RowsQuiet (now (rows .entry)) (now (tasks .entry)) count t r ⌝ }
+// The instants of all rows, one for each. They are kept from tick to tick, and a row's is found anew only after the row had its
+// turn. At first every row is to have its turn; the lanes beyond the rows must not hold the least instant down.
+pub fn no_wakes(count: u32) -> [u32; TASKS]
+    requires { ⌜ count ≤ maxTasks ⌝ }
+    ensures { λ r. ⌜ ((j : ℕ) → j < count → getD r j 0 ≡ 0) ⌝ }
+{
+    let mut wakes = [NEVER; TASKS];
+    let mut j: u32 = 0;
+    while j < count {
+        wakes[j as usize] = 0;
+        j += 1;
+    }
+    wakes
+}
+
+// After a tick: the rows that had their turn look from t on; the instants of the others stand.
+pub fn refresh(
+    rows: &[u32],
+    count: u32,
+    tasks: &[u32],
+    t: u32,
+    calls: u32,
+    wakes: &mut [u32; TASKS],
+)
+    requires { ⌜ OthersWake calls (now rows) (now tasks) count t (now wakes) ⌝ }
+    ensures { λ r. ⌜ Wakes (now (rows .entry)) (now (tasks .entry)) count t (now (wakes .exit)) ⌝ }
+{
+    let mut j = turns::next(calls, 0);
+    while j < count {
+        let one = row_wake(rows, j, tasks, t);
+        arrays::put(wakes, j as usize, one);
+        j = turns::next(calls, j + 1);
+    }
+}
+
+// Some bits, or none: a choice that needs no branch.
+fn bits_if(wanted: bool, bits: u32) -> u32
+    ensures { λ r. ⌜ r ≡ cond wanted bits 0 ⌝ }
+{
+    if wanted { bits } else { 0 }
+}
+
+// The rows whose instant has come, as bits. Few rows are walked; else all lanes are asked, in a loop of fixed length that the
+// compiler turns into a few wide operations.
+fn awake_few(count: u32, wakes: &[u32; TASKS], t: u32) -> u32
+    requires { ⌜ count ≤ maxTasks ⌝ }
+    ensures { λ r. ⌜ AllIn (λ j. leb (getD (now (wakes .entry)) j 0) t) count r ⌝ }
+{
+    let mut calls: u32 = 0;
+    let mut j: u32 = 0;
+    while j < count {
+        let bit = bits_if(wakes[j as usize] <= t, 1u32 << j);
+        calls = calls | bit;
+        j += 1;
+    }
+    calls
+}
+
+fn awake_all(wakes: &[u32; TASKS], t: u32) -> u32
+    ensures { λ r. ⌜ AllIn (λ j. leb (getD (now (wakes .entry)) j 0) t) maxTasks r ⌝ }
+{
+    let mut calls: u32 = 0;
+    let mut bit: u32 = 1;
+    let mut j: usize = 0;
+    while j < TASKS {
+        calls = calls | bits_if(wakes[j] <= t, bit);
+        bit = bit * 2;
+        j += 1;
+    }
+    calls
+}
+
+fn awake(count: u32, wakes: &[u32; TASKS], t: u32) -> u32
+    requires { ⌜ count ≤ maxTasks ⌝ }
+    ensures { λ r. ⌜ AllIn (λ j. leb (getD (now (wakes .entry)) j 0) t) count r ⌝ }
+{
+    if count <= FEW {
+        awake_few(count, wakes, t)
+    } else {
+        awake_all(wakes, t)
+    }
+}
+
+// The event-driven rows, as bits.
+pub fn driven(rows: &[u32], count: u32) -> u32
+    requires { ⌜ count ≤ maxTasks ⌝ }
+    ensures { λ r. ⌜ AllIn (λ j. eqb (rowField (now (rows .entry)) j 1) 0) count r ⌝ }
+{
+    let mut all: u32 = 0;
+    let mut j: u32 = 0;
+    while j < count {
+        let bit = bits_if(row_field(rows, j, 1) == 0, 1u32 << j);
+        all = all | bit;
+        j += 1;
+    }
+    all
+}
+
+// The rows that have their turn at tick t, as bits: those whose instant has come, and where events come the event-driven ones.
+// Bits beyond the rows do no harm.
+pub fn calls(count: u32, wakes: &[u32; TASKS], t: u32, driven: u32, come: bool) -> u32
+    requires { ⌜ count ≤ maxTasks ⌝ }
+    ensures { λ r. ⌜ OthersLater r count t (now (wakes .entry)) driven come ⌝ }
+{
+    awake(count, wakes, t) | bits_if(come, driven)
+}
+
+// The least instant, in the same two ways.
+fn wake_few(count: u32, wakes: &[u32; TASKS]) -> u32
+    requires { ⌜ count ≤ maxTasks ⌝ }
+    ensures { λ r. ⌜ ((j : ℕ) → j < count → r ≤ getD (now (wakes .entry)) j 0) ⌝ }
 {
     let mut wake = NEVER;
     let mut j: u32 = 0;
     while j < count {
-        let one = row_wake(rows, j, tasks, t);
-        wake = least(wake, one);
+        wake = least(wake, wakes[j as usize]);
         j += 1;
     }
     wake
+}
+
+fn wake_all(wakes: &[u32; TASKS]) -> u32
+    ensures { λ r. ⌜ ((j : ℕ) → j < maxTasks → r ≤ getD (now (wakes .entry)) j 0) ⌝ }
+{
+    let mut wake = NEVER;
+    let mut j: usize = 0;
+    while j < TASKS {
+        wake = least(wake, wakes[j]);
+        j += 1;
+    }
+    wake
+}
+
+fn next_wake(count: u32, wakes: &[u32; TASKS]) -> u32
+    requires { ⌜ count ≤ maxTasks ⌝ }
+    ensures { λ r. ⌜ ((j : ℕ) → j < count → r ≤ getD (now (wakes .entry)) j 0) ⌝ }
+{
+    if count <= FEW {
+        wake_few(count, wakes)
+    } else {
+        wake_all(wakes)
+    }
 }
 
 // An instant before which the event at a place does not come.
@@ -117,11 +258,13 @@ pub fn pass(
     place: u32,
     t: u32,
     left: u32,
+    wakes: &[u32; TASKS],
     tasks: &mut [u32],
 ) -> u32
+    requires { ⌜ (count ≤ maxTasks) × Wakes (now rows) (now tasks) count t (now wakes) ⌝ }
     ensures { λ r. ⌜ Passed (now (rows .entry)) count (wordsOf (now (events .entry))) (eventCount (now (events .entry))) place t left r (now (tasks .entry)) (now (tasks .exit)) ⌝ }
 {
-    let wake = least(next_event(events, place), next_wake(rows, count, tasks, t));
+    let wake = least(next_event(events, place), next_wake(count, wakes));
     let most = least(less(wake, t), left);
     if most == 0 {
         return 0;

@@ -1,21 +1,40 @@
 -- What each kind of turn of a run comes to.
 use Prim.Native.Nat.{ℕ, zero, suc, _+_, _-_, _*_, _<_, _≤_, _^_}
 use mathlib.Core.Path.{_≡_, refl, sym, ap, _∙_}
-use mathlib.Core.Bool.{true, false}
+use mathlib.Core.Bool.{true, false, not}
 use mathlib.Core.List.{List}
 use native.Mathlib.Nat.{sub-zero, add-zero}
 use native.Mathlib.Omega.{arith}
 use lib.ListN.{length}
+use lib.Dec.{eqb}
+use borrow.Author.Tests.{ne-eqb}
 use Rattle.arrays.specs.Arrays.{Arrays}
-use Rattle.step.specs.Step.{Given, placeAfter, stepFlat, Stepped}
+use Rattle.step.specs.Step.{Given, placeAfter, stepFlat, stepCalled, Stepped}
 use Rattle.step.specs.declared.Clock.{Clock}
 use Rattle.step.proofs.Laws.{place-most}
-use Rattle.quiet.specs.Quiet.{lowered, Calm, Passed}
+use Rattle.quiet.specs.Quiet.{OthersWake, OthersLater, OthersRest, lowered, Calm, Passed}
 use Rattle.quiet.proofs.Ticks.{withTasks}
-use Rattle.run.specs.Run.{Went, runFlat, Sofar, Turned}
+use Rattle.quiet.proofs.Called.{called-all, others-wake, others-rest}
+use Rattle.run.specs.Run.{Went, runFlat, Sofar, Watched, Turned}
 use Rattle.run.specs.declared.Ran.{Ran}
 use Rattle.run.proofs.Laws.{went-more, went-full, sofar-more}
 use Rattle.run.proofs.Calm.{once, later, calm-run}
+
+-- ---- a tick in which rows have no turn
+module _ (g : Given) (t place : ℕ) (a : Arrays) (calls driven last : ℕ) (wakes : List ℕ) (w : Watched (g .rows) (g .count) driven (a .tasks) t wakes)
+    (ends : last ≡ placeAfter g t place) (later : OthersLater calls (g .count) t wakes driven (not (eqb last place))) where
+  rests : OthersRest calls g t place (a .tasks)
+  rests =
+      others-rest calls g t place (a .tasks) wakes driven (not (eqb last place)) (w .instants) (w .event-driven)
+      (λ come. rw (ends, ne-eqb (placeAfter g t place) place come)) later
+
+  -- it comes to the same
+  pub turns-all : stepCalled calls g t place a ≡ stepFlat g t place a
+  turns-all = called-all calls g t place a (w .distinct) rests
+
+  -- and their instants stand
+  pub turns-wake : (clock next : Clock) (a′ : Arrays) (old new : List ℕ) → clock .tick ≡ t → clock .place ≡ place → Stepped clock next a′ old new g a → OthersWake calls (g .rows) (a′ .tasks) (g .count) (next .tick) wakes
+  turns-wake clock next a′ old new et ep u = rw (u .arrays, u .tick, et, ep) (others-wake calls g t place a (w .distinct) rests wakes (w .instants))
 
 -- ---- ticks that were passed over
 sofar-later : (n : ℕ) (w₀ w : Went) (done : ℕ) (trace₀ now : List ℕ) (at : ℕ) → Sofar w₀ (later n w) done trace₀ now at → Sofar w₀ w (done + n) trace₀ now at

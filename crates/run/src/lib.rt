@@ -5,11 +5,15 @@ ghost use mathlib.Core.Bool.{false, cond};
 ghost use mathlib.Core.List.{List};
 ghost use Prim.Native.Nat.{ℕ, suc, _+_, _*_, _<_, _≤_, _^_};
 ghost use lib.ListN.{length};
+ghost use Rattle.limits.specs.Limits.{maxTasks};
 ghost use Rattle.events.specs.Events.{eventCount};
 ghost use Rattle.step.specs.Step.{given, Sizes, Ready};
 ghost use Rattle.room.specs.Room.{rowsMost};
-ghost use Rattle.run.specs.Run.{Asked, Ends, Turned, runFlat};
+ghost use Rattle.quiet.specs.Quiet.{Distinct, Wakes};
+ghost use Rattle.run.specs.Run.{Watched, Asked, Ends, Turned, runFlat};
 use step::Clock;
+
+const TASKS: usize = limits::TASKS as usize;
 
 // How a run of ticks ended: the clock after it, the ticks run, and whether the trace was too full for the next one.
 pub struct Ran {
@@ -18,7 +22,8 @@ pub struct Ran {
     pub full: bool,
 }
 
-// A tick is run if all its records fit.
+// A tick is run if all its records fit. Only rows whose instant has come have their turn, and where events come those that are
+// event-driven; their instants are then found anew.
 fn tick_once(
     plan: &[u8],
     rows: &[u32],
@@ -26,6 +31,8 @@ fn tick_once(
     events: &[u8],
     clock: Clock,
     most: usize,
+    driven: u32,
+    wakes: &mut [u32; TASKS],
     signals: &mut [u32],
     tasks: &mut [u32],
     latched: &mut [u32],
@@ -36,10 +43,12 @@ fn tick_once(
     requires { ⌜ Sizes (record { signals = now signals; tasks = now tasks; latched = now latched; held = now held }) ⌝ }
     requires { ⌜ (most ≡ 2 * rowsMost (now rows) count 0) × (most ≤ 2 ^ 38) ⌝ }
     requires { ⌜ clock .at ≤ length (now trace) ⌝ }
+    requires { ⌜ Watched (now rows) count driven (now tasks) (clock .tick) (now wakes) ⌝ }
     ensures { λ r. ⌜ ((left : ℕ) → Turned (given (now (plan .entry)) (now (rows .entry)) count (now (events .entry))) (suc left) clock
         (record { signals = now (signals .entry); tasks = now (tasks .entry); latched = now (latched .entry); held = now (held .entry) }) (now (trace .entry)) r
         (record { signals = now (signals .exit); tasks = now (tasks .exit); latched = now (latched .exit); held = now (held .exit) }) (now (trace .exit))) ⌝ }
     ensures moves { λ r. ⌜ r .ticks ≡ cond (r .full) 0 1 ⌝ }
+    ensures watched { λ r. ⌜ Watched (now (rows .entry)) count driven (now (tasks .exit)) (r .clock .tick) (now (wakes .exit)) ⌝ }
 {
     let last = step_releases::end_of(events, clock.tick, clock.place, (events.len() / 16) as u32);
     let fits = room::tick_fits(rows, count, events, clock, last, most, tasks, trace.len());
@@ -50,6 +59,7 @@ fn tick_once(
             full: true,
         };
     }
+    let calls = quiet::calls(count, wakes, clock.tick, driven, last != clock.place);
     let next = step::step(
         plan,
         rows,
@@ -57,12 +67,14 @@ fn tick_once(
         events,
         clock,
         last,
+        calls,
         signals,
         tasks,
         latched,
         held,
         trace,
     );
+    quiet::refresh(rows, count, tasks, next.tick, calls, wakes);
     Ran {
         clock: next,
         ticks: 1,
@@ -71,13 +83,32 @@ fn tick_once(
 }
 
 // As many ticks as can be are passed over, at most `left`; it may be none.
-fn rest(rows: &[u32], count: u32, events: &[u8], clock: Clock, left: u32, tasks: &mut [u32]) -> Ran
-    requires { ⌜ (clock .place ≤ eventCount (now events)) × (clock .tick + left < 2 ^ 31) ⌝ }
+fn rest(
+    rows: &[u32],
+    count: u32,
+    events: &[u8],
+    clock: Clock,
+    left: u32,
+    wakes: &[u32; TASKS],
+    tasks: &mut [u32],
+) -> Ran
+    requires { ⌜ (count ≤ maxTasks) × (clock .place ≤ eventCount (now events)) × (clock .tick + left < 2 ^ 31) ⌝ }
+    requires { ⌜ Wakes (now rows) (now tasks) count (clock .tick) (now wakes) ⌝ }
     ensures { λ r. ⌜ ((plan signals latched held trace : List ℕ) → clock .at ≤ length trace → Turned (given plan (now (rows .entry)) count (now (events .entry))) left clock
         (record { signals = signals; tasks = now (tasks .entry); latched = latched; held = held }) trace r
         (record { signals = signals; tasks = now (tasks .exit); latched = latched; held = held }) trace) ⌝ }
+    ensures wakes { λ r. ⌜ Wakes (now (rows .entry)) (now (tasks .exit)) count (r .clock .tick) (now (wakes .entry)) ⌝ }
 {
-    let ticks = quiet::pass(rows, count, events, clock.place, clock.tick, left, tasks);
+    let ticks = quiet::pass(
+        rows,
+        count,
+        events,
+        clock.place,
+        clock.tick,
+        left,
+        wakes,
+        tasks,
+    );
     Ran {
         clock: Clock {
             tick: clock.tick + ticks,
@@ -99,6 +130,8 @@ fn turn(
     clock: Clock,
     left: u32,
     most: usize,
+    driven: u32,
+    wakes: &mut [u32; TASKS],
     signals: &mut [u32],
     tasks: &mut [u32],
     latched: &mut [u32],
@@ -109,13 +142,15 @@ fn turn(
     requires { ⌜ Sizes (record { signals = now signals; tasks = now tasks; latched = now latched; held = now held }) ⌝ }
     requires { ⌜ (most ≡ 2 * rowsMost (now rows) count 0) × (most ≤ 2 ^ 38) ⌝ }
     requires { ⌜ (clock .at ≤ length (now trace)) × (0 < left) × (clock .tick + left < 2 ^ 31) ⌝ }
+    requires { ⌜ Watched (now rows) count driven (now tasks) (clock .tick) (now wakes) ⌝ }
     ensures { λ r. ⌜ Turned (given (now (plan .entry)) (now (rows .entry)) count (now (events .entry))) left clock
         (record { signals = now (signals .entry); tasks = now (tasks .entry); latched = now (latched .entry); held = now (held .entry) }) (now (trace .entry)) r
         (record { signals = now (signals .exit); tasks = now (tasks .exit); latched = now (latched .exit); held = now (held .exit) }) (now (trace .exit)) ⌝ }
     ensures moves { λ r. ⌜ (look ≡ false → r .full ≡ false → 0 < r .ticks) ⌝ }
+    ensures watched { λ r. ⌜ Watched (now (rows .entry)) count driven (now (tasks .exit)) (r .clock .tick) (now (wakes .exit)) ⌝ }
 {
     if look {
-        return rest(rows, count, events, clock, left, tasks);
+        return rest(rows, count, events, clock, left, wakes, tasks);
     }
     tick_once(
         plan,
@@ -124,6 +159,8 @@ fn turn(
         events,
         clock,
         most,
+        driven,
+        wakes,
         signals,
         tasks,
         latched,
@@ -149,11 +186,14 @@ pub fn run_ticks(
 ) -> Ran
     requires { ⌜ Asked count (eventCount (now events)) asked clock ⌝ }
     requires { ⌜ Sizes (record { signals = now signals; tasks = now tasks; latched = now latched; held = now held }) ⌝ }
+    requires { ⌜ Distinct (now rows) count ⌝ }
     ensures { λ r. ⌜ Ends clock r (record { signals = now (signals .exit); tasks = now (tasks .exit); latched = now (latched .exit); held = now (held .exit) }) (now (trace .entry)) (now (trace .exit))
         (runFlat (given (now (plan .entry)) (now (rows .entry)) count (now (events .entry))) (length (now (trace .entry))) asked (clock .tick) (clock .place)
         (record { signals = now (signals .entry); tasks = now (tasks .entry); latched = now (latched .entry); held = now (held .entry) })) ⌝ }
 {
     let most = room::most_entries(rows, count);
+    let driven = quiet::driven(rows, count);
+    let mut wakes = quiet::no_wakes(count);
     let mut now = clock;
     let mut done: u32 = 0;
     let mut look = false;
@@ -167,6 +207,8 @@ pub fn run_ticks(
             now,
             asked - done,
             most,
+            driven,
+            &mut wakes,
             signals,
             tasks,
             latched,

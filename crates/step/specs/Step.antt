@@ -9,7 +9,7 @@ use Rattle.events.specs.Events.{Event, eventCount}
 use Rattle.trace.specs.Trace.{over}
 use Rattle.arrays.specs.Arrays.{Arrays, Step}
 use Rattle.tick.specs.Tick.{setNow}
-use Rattle.steps.specs.Flat.{eachRow, lapse, grant, runsFlat, endFrom, between}
+use Rattle.steps.specs.Flat.{eachRow, called, lapse, grant, runsFlat, endFrom, between}
 use Rattle.step.specs.declared.Clock.{Clock}
 
 -- what a run does not change: the words of the plan, its schedule and the number of rows, the events
@@ -38,6 +38,15 @@ stepFlat g t place a =
     let now = between (g .events) place (placeAfter g t place) in
     let s₁ = eachRow (lapse t (g .rows)) (g .count) 0 (withEvents now a) in
     let s₂ = eachRow (grant t (g .rows) now) (g .count) 0 (s₁ .arrays) in
+    let s₃ = runsFlat t (g .plan) (g .rows) (g .count) (s₂ .arrays) in
+    record { arrays = s₃ .arrays; entries = s₁ .entries ++ s₂ .entries ++ s₃ .entries }
+
+-- the same, where in steps 1 and 2 only the rows have their turn whose bit stands in a word
+unfoldable pub stepCalled : ℕ → Given → ℕ → ℕ → Arrays → Step
+stepCalled calls g t place a =
+    let now = between (g .events) place (placeAfter g t place) in
+    let s₁ = eachRow (called calls (lapse t (g .rows))) (g .count) 0 (withEvents now a) in
+    let s₂ = eachRow (called calls (grant t (g .rows) now)) (g .count) 0 (s₁ .arrays) in
     let s₃ = runsFlat t (g .plan) (g .rows) (g .count) (s₂ .arrays) in
     record { arrays = s₃ .arrays; entries = s₁ .entries ++ s₂ .entries ++ s₃ .entries }
 

@@ -2,7 +2,8 @@
 ghost use mathlib.Core.Path.{_≡_};
 ghost use Prim.Native.Nat.{_+_, _≤_, _^_};
 ghost use Rattle.events.specs.Events.{eventCount};
-ghost use Rattle.step.specs.Step.{given, placeAfter, Ready, Stepped};
+ghost use Rattle.step.specs.Step.{given, placeAfter, stepFlat, stepCalled, Ready, Stepped};
+use step_deadlines::deadlines;
 use step_releases::Instant;
 
 // What a run keeps beside the arrays: the next tick's number, the event place, and the word of the trace at which the next
@@ -14,7 +15,7 @@ pub struct Clock {
 }
 
 // One tick, whose events stand from the clock's place up to `last`: the caller has looked for that place to know how many they
-// are.
+// are. In steps 1 and 2 only the rows of `calls` have their turn: the caller knows that the others would do nothing.
 pub fn step(
     plan: &[u8],
     rows: &[u32],
@@ -22,6 +23,7 @@ pub fn step(
     events: &[u8],
     clock: Clock,
     last: u32,
+    calls: u32,
     signals: &mut [u32],
     tasks: &mut [u32],
     latched: &mut [u32],
@@ -30,6 +32,8 @@ pub fn step(
 ) -> Clock
     requires { ⌜ Ready count (eventCount (now events)) clock ⌝ }
     requires { ⌜ last ≡ placeAfter (given (now plan) (now rows) count (now events)) (clock .tick) (clock .place) ⌝ }
+    requires { ⌜ stepCalled calls (given (now plan) (now rows) count (now events)) (clock .tick) (clock .place) (record { signals = now signals; tasks = now tasks; latched = now latched; held = now held })
+        ≡ stepFlat (given (now plan) (now rows) count (now events)) (clock .tick) (clock .place) (record { signals = now signals; tasks = now tasks; latched = now latched; held = now held }) ⌝ }
     ensures { λ r. ⌜ Stepped clock r (record { signals = now (signals .exit); tasks = now (tasks .exit); latched = now (latched .exit); held = now (held .exit) }) (now (trace .entry)) (now (trace .exit))
         (given (now (plan .entry)) (now (rows .entry)) count (now (events .entry)))
         (record { signals = now (signals .entry); tasks = now (tasks .entry); latched = now (latched .entry); held = now (held .entry) }) ⌝ }
@@ -39,12 +43,13 @@ pub fn step(
     let first = clock.place;
     let moment = Instant { t, first, last };
     step_releases::set_signals(events, first, last, signals);
-    let written = step_deadlines::deadlines(rows, count, t, held, signals, tasks, trace, clock.at);
+    let written = deadlines(rows, count, t, calls, held, signals, tasks, trace, clock.at);
     let released = step_releases::releases(
         rows,
         count,
         events,
         moment,
+        calls,
         signals,
         tasks,
         latched,

@@ -3,10 +3,11 @@ ghost use mathlib.Core.Path.{_≡_};
 ghost use mathlib.Core.List.{List};
 ghost use Prim.Native.Nat.{ℕ, _+_, _*_, _<_, _≤_, _^_};
 ghost use lib.ListN.{length};
+ghost use Rattle.limits.specs.Limits.{maxTasks};
 ghost use Rattle.trace.specs.Trace.{over};
 ghost use Rattle.tick.specs.Tick.{writeAll};
 ghost use Rattle.arrays.specs.Arrays.{Does};
-ghost use Rattle.steps.specs.Flat.{taskOfRow, reset, rowWrites, writeEntries, endsNow, lapse, eachRow};
+ghost use Rattle.steps.specs.Flat.{taskOfRow, reset, rowWrites, writeEntries, endsNow, lapse, eachRow, called};
 ghost use Rattle.step_deadlines.specs.Writes.{Wrote};
 use arrays::get;
 use arrays::put;
@@ -116,27 +117,28 @@ fn lapse_row(
     from
 }
 
-// Step 1: each of the first `count` rows in its turn; the word at which the records end.
+// Step 1: each of the first `count` rows whose bit stands in `calls`, in its turn; the word at which the records end.
 pub fn deadlines(
     rows: &[u32],
     count: u32,
     t: u32,
+    calls: u32,
     held: &[u32],
     signals: &mut [u32],
     tasks: &mut [u32],
     trace: &mut [u32],
     from: usize,
 ) -> usize
-    requires { ⌜ (count ≤ 16) × (from < 2 ^ 62 + 2 ^ 42) ⌝ }
+    requires { ⌜ (count ≤ maxTasks) × (from < 2 ^ 62 + 2 ^ 42) ⌝ }
     ensures { λ r. ⌜ ((latched : List ℕ) → Does (record { signals = now (signals .exit); tasks = now (tasks .exit); latched = latched; held = now (held .entry) }) (now (trace .entry)) (now (trace .exit)) from r
-        (eachRow (lapse t (now (rows .entry))) count 0 (record { signals = now (signals .entry); tasks = now (tasks .entry); latched = latched; held = now (held .entry) }))) ⌝ }
+        (eachRow (called calls (lapse t (now (rows .entry)))) count 0 (record { signals = now (signals .entry); tasks = now (tasks .entry); latched = latched; held = now (held .entry) }))) ⌝ }
     ensures near { λ r. ⌜ r ≤ from + 2 ^ 39 ⌝ }
 {
     let mut at = from;
-    let mut j: u32 = 0;
+    let mut j = turns::next(calls, 0);
     while j < count {
         at = lapse_row(rows, j, t, held, signals, tasks, trace, at);
-        j += 1;
+        j = turns::next(calls, j + 1);
     }
     at
 }

@@ -1,7 +1,7 @@
 -- The events of a tick and the ports of a task, one at a time.
 use Prim.Native.Nat.{ℕ, zero, suc, _+_, _-_, _*_, _<_, _≤_}
 use mathlib.Core.Path.{_≡_, refl, ap, _∙_}
-use mathlib.Core.Bool.{Bool, true, false, cond, not, _&&_}
+use mathlib.Core.Bool.{Bool, true, false, cond, not, _&&_, _||_, true≢false, false≢true}
 use mathlib.Core.List.{List, [], _∷_}
 use native.Mathlib.Omega.{arith}
 use lib.ListN.{set, replicate}
@@ -15,7 +15,7 @@ use Rattle.arrays.specs.Arrays.{field, rowField}
 use Rattle.tick.specs.Turns.{requests, Call, released, overrun, ignored, periodicCall, eventCall}
 use Rattle.tick.specs.Tick.{setNow}
 use Rattle.steps.specs.Flat.{statusOf, endFrom, latch, latchedAt, taskOfRow, isDue, callOfRow}
-use Rattle.step_releases.specs.Asked.{setOne, askedOf}
+use Rattle.step_releases.specs.Asked.{setOne, askedOf, closed}
 
 module _ (ws : List ℕ) (t n p : ℕ) where
   pub end-more : p < n → endFrom ws t (n - p) p ≡ cond (eqb (eventOf ws p .instant) t) (endFrom ws t (n - (p + 1)) (p + 1)) p
@@ -130,6 +130,33 @@ module _ (t : ℕ) (rows : List ℕ) (now : List Event) (j : ℕ) (tasks : List 
       go : (x y z : Bool) → y ≡ false → cond (x && not y && z) overrun (ignored 0) ≡ cond (x && z) overrun (ignored 0)
       go true y z e = rw e
       go false y z e = refl
+
+  -- the same where it is not closed: it overruns
+  pub call-overrun : (status ≡ 0 → ⊥) → (rowField rows j 1 ≡ 0 → ⊥) → (asked ≡ 0 → ⊥) → closed (rowField rows j 1) status (rowField rows j 2) ≡ false → callOfRow t rows now j tasks ≡ overrun
+  call-overrun n p a h = call-due n p a ∙ go (eqb (rowField rows j 1) 0) (ne-eqb (rowField rows j 1) 0 p) (eqb status 0) (ne-eqb status 0 n) (eqb status 1) (eqb (rowField rows j 2) 0) h
+    where
+      go : (p : Bool) → p ≡ false → (s : Bool) → s ≡ false → (x z : Bool) → (not p && not s && (not x || not z)) ≡ false → cond (x && z) overrun (ignored 0) ≡ overrun
+      go true e s f x z h = absurd (true≢false e)
+      go false e true f x z h = absurd (true≢false f)
+      go false e false f true true h = refl
+      go false e false f true false h = absurd (true≢false h)
+      go false e false f false z h = absurd (true≢false h)
+
+  -- closed: nothing, whatever is asked
+  pub call-closed : closed (rowField rows j 1) status (rowField rows j 2) ≡ true → callOfRow t rows now j tasks ≡ ignored 0
+  call-closed h = go (eqb (rowField rows j 1) 0) refl (eqb status 0) refl h
+    where
+      none : (x y z : Bool) → (not x || not z) ≡ true → cond (x && not y && z) overrun (ignored 0) ≡ ignored 0
+      none true y true h = absurd (false≢true h)
+      none true true false h = refl
+      none true false false h = refl
+      none false y z h = refl
+
+      go : (p : Bool) → eqb (rowField rows j 1) 0 ≡ p → (s : Bool) → eqb status 0 ≡ s
+          → (not p && not s && (not (eqb status 1) || not (eqb (rowField rows j 2) 0))) ≡ true → callOfRow t rows now j tasks ≡ ignored 0
+      go true e s f g = absurd (false≢true g)
+      go false e true f g = absurd (false≢true g)
+      go false e false f g = call-periodic (eqb-false status 0 f) (eqb-false (rowField rows j 1) 0 e) ∙ none (eqb status 1) (eqb asked 0) (eqb (rowField rows j 2) 0) g
 
   -- not asked: nothing, whatever its status
   pub call-none : asked ≡ 0 → callOfRow t rows now j tasks ≡ ignored 0

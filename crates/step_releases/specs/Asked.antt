@@ -1,7 +1,7 @@
 -- What the parts of steps 0 and 2 hand each other.
 use Prim.Native.Nat.{ℕ, _+_, _*_}
 use mathlib.Core.Path.{_≡_}
-use mathlib.Core.Bool.{Bool, cond, _&&_}
+use mathlib.Core.Bool.{Bool, cond, not, _&&_, _||_}
 use mathlib.Core.List.{List}
 use lib.ListN.{set, replicate}
 use lib.Dec.{eqb}
@@ -9,7 +9,7 @@ use Rattle.limits.specs.Limits.{maxPorts}
 use Rattle.events.specs.Events.{Event}
 use Rattle.trace.specs.Trace.{over}
 use Rattle.trace.specs.declared.Entry.{Entry}
-use Rattle.arrays.specs.Arrays.{active, withField, rowField}
+use Rattle.arrays.specs.Arrays.{ready, active, withField, rowField}
 use Rattle.tick.specs.Turns.{requests}
 use Rattle.steps.specs.Flat.{taskOfRow, latch, isDue}
 
@@ -21,6 +21,10 @@ setOne e signals = cond (eqb (e .kind) 2) (set signals (e .target) (e .value)) s
 abbrev pub askedOf : ℕ → List ℕ → List Event → ℕ → ℕ
 askedOf t rows now j =
     cond (eqb (rowField rows j 1) 0) (requests (taskOfRow rows j) now) (cond (isDue t (rowField rows j 4) (rowField rows j 1)) 1 0)
+
+-- nothing comes of a task's turn, whatever is due: it is periodic, and neither READY nor ACTIVE without a deadline
+abbrev pub closed : ℕ → ℕ → ℕ → Bool
+closed period status deadline = not (eqb period 0) && not (eqb status ready) && (not (eqb status active) || not (eqb deadline 0))
 
 -- so many records of one kind
 pub record Ignored (old-trace new-trace : List ℕ) (from end count : ℕ) (e : Entry) : Type 0 where

@@ -5,15 +5,15 @@ ghost use mathlib.Core.Bool.{cond};
 ghost use Prim.Native.Nat.{ℕ, _+_, _*_, _-_, _<_, _≤_, _^_};
 ghost use lib.Dec.{eqb};
 ghost use lib.ListN.{length, replicate};
-ghost use Rattle.limits.specs.Limits.{maxPorts};
+ghost use Rattle.limits.specs.Limits.{maxTasks, maxPorts};
 ghost use Rattle.words.specs.Words.{wordsOf};
 ghost use Rattle.events.specs.Events.{eventOf};
 ghost use Rattle.trace.specs.Trace.{over, entry, ignoredKind};
 ghost use Rattle.tick.specs.Turns.{requests};
 ghost use Rattle.tick.specs.Tick.{setNow};
 ghost use Rattle.arrays.specs.Arrays.{Does, rowField};
-ghost use Rattle.steps.specs.Flat.{endFrom, between, taskOfRow, latchedAt, latch, isDue, grant, eachRow};
-ghost use Rattle.step_releases.specs.Asked.{setOne, askedOf, Ignored, Started};
+ghost use Rattle.steps.specs.Flat.{endFrom, between, taskOfRow, latchedAt, latch, isDue, grant, eachRow, called};
+ghost use Rattle.step_releases.specs.Asked.{setOne, askedOf, closed, Ignored, Started};
 use arrays::get;
 use arrays::put;
 use arrays::row_field;
@@ -181,7 +181,14 @@ fn start_row(
     latch_row(rows, row, signals, latched);
 }
 
-// The turn of one row.
+// Whether nothing comes of a task's turn, whatever is due: it is periodic, and neither READY nor ACTIVE without a deadline.
+fn is_closed(period: u32, status: u32, deadline: u32) -> bool
+    ensures { λ r. ⌜ r ≡ closed period status deadline ⌝ }
+{
+    !(period == 0) & !(status == 0) & (!(status == 1) | !(deadline == 0))
+}
+
+// The turn of one row. Whether a periodic task is due takes a division, so it is asked only where something can come of it.
 fn grant_row(
     rows: &[u32],
     row: u32,
@@ -203,6 +210,9 @@ fn grant_row(
     let period = row_field(rows, row, 1);
     let deadline = row_field(rows, row, 2);
     let status = task_field(tasks, task, 0);
+    if is_closed(period, status, deadline) {
+        return from;
+    }
     let asked = asked_of(rows, row, events, moment);
     if asked == 0 {
         return from;
@@ -225,46 +235,44 @@ fn grant_row(
     if period == 0 {
         return ignore(t, task, asked, trace, from);
     }
-    if (status == 1) & (deadline == 0) {
-        trace::put(
-            trace,
-            from,
-            Entry {
-                instant: t,
-                kind: 4,
-                task,
-                signal: 0,
-                value: 0,
-            },
-        );
-        step_deadlines::reset_task(tasks, task, 3);
-        return from + 5;
-    }
-    from
+    trace::put(
+        trace,
+        from,
+        Entry {
+            instant: t,
+            kind: 4,
+            task,
+            signal: 0,
+            value: 0,
+        },
+    );
+    step_deadlines::reset_task(tasks, task, 3);
+    from + 5
 }
 
-// Step 2: each of the first `count` rows in its turn; the word at which the records end.
+// Step 2: each of the first `count` rows whose bit stands in `calls`, in its turn; the word at which the records end.
 pub fn releases(
     rows: &[u32],
     count: u32,
     events: &[u8],
     moment: Instant,
+    calls: u32,
     signals: &[u32],
     tasks: &mut [u32],
     latched: &mut [u32],
     trace: &mut [u32],
     from: usize,
 ) -> usize
-    requires { ⌜ (count ≤ 16) × (from < 2 ^ 62 + 2 ^ 42) ⌝ }
+    requires { ⌜ (count ≤ maxTasks) × (from < 2 ^ 62 + 2 ^ 42) ⌝ }
     ensures { λ r. ⌜ ((held : List ℕ) → Does (record { signals = now (signals .entry); tasks = now (tasks .exit); latched = now (latched .exit); held = held }) (now (trace .entry)) (now (trace .exit)) from r
-        (eachRow (grant (moment .t) (now (rows .entry)) (between (wordsOf (now (events .entry))) (moment .first) (moment .last))) count 0 (record { signals = now (signals .entry); tasks = now (tasks .entry); latched = now (latched .entry); held = held }))) ⌝ }
+        (eachRow (called calls (grant (moment .t) (now (rows .entry)) (between (wordsOf (now (events .entry))) (moment .first) (moment .last)))) count 0 (record { signals = now (signals .entry); tasks = now (tasks .entry); latched = now (latched .entry); held = held }))) ⌝ }
     ensures near { λ r. ⌜ r ≤ from + 2 ^ 39 ⌝ }
 {
     let mut at = from;
-    let mut j: u32 = 0;
+    let mut j = turns::next(calls, 0);
     while j < count {
         at = grant_row(rows, j, events, moment, signals, tasks, latched, trace, at);
-        j += 1;
+        j = turns::next(calls, j + 1);
     }
     at
 }

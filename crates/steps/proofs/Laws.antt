@@ -2,6 +2,7 @@
 use Prim.Native.Nat.{ℕ, suc, _+_, _-_, _*_, _<_, _≤_}
 use mathlib.Core.Path.{_≡_, refl, ap, _∙_}
 use mathlib.Core.List.{List, [], _∷_, _++_, map}
+use native.Mathlib.Nat.{sub-zero}
 use native.Mathlib.Omega.{arith}
 use lib.ListN.{length, set, length-append}
 use Rattle.lists.specs.Lists.{tab}
@@ -33,6 +34,10 @@ pub record Sofar (act : ℕ → Arrays → Step) (n : ℕ) (a₀ : Arrays) (trac
   pub arrays : eachRow act n 0 a₀ .arrays ≡ eachRow act (n - k) k a .arrays
   pub trace : over trace₀ from (eachRow act n 0 a₀ .entries) ≡ over now at (eachRow act (n - k) k a .entries)
   pub ends : from + 5 * length (eachRow act n 0 a₀ .entries) ≡ at + 5 * length (eachRow act (n - k) k a .entries)
+
+-- no row yet
+pub sofar-none : (act : ℕ → Arrays → Step) (n : ℕ) (a : Arrays) (trace : List ℕ) (from : ℕ) → Sofar act n a trace from a trace from 0
+sofar-none act n a trace from = record { arrays = rw sub-zero; trace = rw sub-zero; ends = rw sub-zero }
 
 -- one row more
 pub sofar-more : (act : ℕ → Arrays → Step) (n : ℕ) (a₀ : Arrays) (trace₀ : List ℕ) (from : ℕ) (a : Arrays) (trace : List ℕ) (at k : ℕ) → k < n

@@ -6,6 +6,7 @@ use mathlib.Core.List.{List, [], _∷_, _++_, map}
 use lib.ListN.{length, getD, set, take, drop, replicate}
 use lib.Dec.{leb, ltb, eqb}
 use Rattle.limits.specs.Limits.{maxPorts}
+use Rattle.marks.specs.Marks.{has}
 use Rattle.lists.specs.Lists.{tab}
 use Rattle.plan.specs.File.{taskOf, bodyOf}
 use Rattle.events.specs.Events.{Event, eventOf}
@@ -26,6 +27,10 @@ eachRow act (suc n) j a =
     let u = act j a in
     let v = eachRow act n (j + 1) (u .arrays) in
     record { arrays = v .arrays; entries = u .entries ++ v .entries }
+
+-- the turn of a row whose bit stands in a word; any other row does nothing
+abbrev pub called : ℕ → (ℕ → Arrays → Step) → ℕ → Arrays → Step
+called calls act j a = cond (has calls j) (act j a) (still a)
 
 -- the status that a number stands for
 unfoldable pub statusOf : ℕ → Status

@@ -1,6 +1,6 @@
 // Words of 4 bytes, lowest byte first: the numbers that plan files and event lists are made of.
 ghost use mathlib.Core.Path.{_≡_};
-ghost use Prim.Native.Nat.{_+_, _≤_, min};
+ghost use Prim.Native.Nat.{_+_, _*_, _≤_, min};
 ghost use lib.ListN.{length};
 ghost use Rattle.words.specs.Words.{joined, fourAt, wordAt, partOf};
 
@@ -28,6 +28,15 @@ pub fn word(bytes: &[u8], i: usize) -> u32
     } else {
         0
     }
+}
+
+// Word i where it is known to be there: no test, for loops over a part whose length has been asked for.
+pub fn known(bytes: &[u8], i: usize) -> u32
+    requires { ⌜ i * 4 + 4 ≤ length (now bytes) ⌝ }
+    ensures { λ r. ⌜ r ≡ wordAt (now (bytes .entry)) i ⌝ }
+{
+    let start = i * 4;
+    four(bytes, start)
 }
 
 fn smaller(a: usize, b: usize) -> usize

@@ -13,13 +13,13 @@ use Rattle.event_check.proofs.all_events.Statement.{statement}
 use Rattle.event_check.proofs.all_events.Tie as tie
 
 abbrev Inv-loop : tie.InvT-loop
-Inv-loop plan events count written last₀ i₀ last i =
+Inv-loop events count targets last₀ i₀ last i =
     (i ≤ count)
-    × (firstBroken (eventRules (contentBy (wordsOf plan) written) 0 0 (tab (eventOf (wordsOf events)) 0 count))
-    ≡ firstBroken (eventRules (contentBy (wordsOf plan) written) i last (tab (eventOf (wordsOf events)) i (count - i))))
+    × (firstBroken (eventRules (contentBy targets) 0 0 (tab (eventOf (wordsOf events)) 0 count))
+    ≡ firstBroken (eventRules (contentBy targets) i last (tab (eventOf (wordsOf events)) i (count - i))))
 
 abbrev μ-loop : tie.MeasureT-loop
-μ-loop plan events count written last₀ i₀ last i = count - i
+μ-loop events count targets last₀ i₀ last i = count - i
 
 loop-holds : tie.Need-loop-holds Inv-loop μ-loop
 loop-holds c = (search needs, rw sub-zero)
@@ -43,7 +43,7 @@ loop-again c = (
     ← c .before .before .before .one-event .ensures,
     ← c .before .before .accepted .ensures,
     not-false (c .before .before .accepted .result) (c .before .if1 .left),
-    c .word .ensures,
+    c .known .ensures,
   ),
 )
 

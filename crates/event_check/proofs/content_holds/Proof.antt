@@ -4,7 +4,13 @@ use Rattle.event_check.proofs.content_holds.Tie as tie
 
 returns : tie.Need-returns
 returns c =
-    rw (c .is-marked .ensures, c .before .period-of .ensures, c .before .before .before .before .before .before .word .ensures, c .before .before .before .before .before .word2 .ensures, c .before .before .before .before .word3 .ensures, c .before .before .before .word4 .ensures, c .before .before .word5 .ensures)
+    rw (
+      c .before .before .is-marked2 .ensures,
+      c .before .before .before .is-marked .ensures,
+      c .before .before .before .before .known3 .ensures,
+      c .before .before .before .before .before .known2 .ensures,
+      c .before .before .before .before .before .before .known .ensures,
+    )
 
 pub content-holds-spec : {M : Type 1} → statement M
 content-holds-spec =
@@ -16,8 +22,6 @@ content-holds-spec =
     (λ c. search needs)
     (λ c κs. search needs)
     (λ c. search needs)
-    (λ c κs. search needs)
-    (λ c κs. search needs)
     (λ c κs. search needs)
     (λ c κs. search needs)
     (λ c κs. search needs)

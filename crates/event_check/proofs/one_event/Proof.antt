@@ -7,14 +7,14 @@ use Rattle.event_check.proofs.one_event.Tie as tie
 returns : tie.Need-returns
 unfolding firstBroken
 returns c =
-    rw (← c .before .before .word .ensures, ← c .before .instant-holds .ensures, not-true (c .before .instant-holds .result) (c .if1 .taken))
+    rw (← c .before .before .known .ensures, ← c .before .instant-holds .ensures, not-true (c .before .instant-holds .result) (c .if1 .taken))
 
 returns-2 : tie.Need-returns-2
 unfolding firstBroken
 returns-2 c =
     rw (
       ← c .before .content-holds .ensures,
-      ← c .before .before .before .before .word .ensures,
+      ← c .before .before .before .before .known .ensures,
       ← c .before .before .before .instant-holds .ensures,
       not-false (c .before .before .before .instant-holds .result) (c .before .before .if1 .left),
       not-true (c .before .content-holds .result) (c .if2 .taken),
@@ -25,7 +25,7 @@ unfolding firstBroken
 returns-3 c =
     rw (
       ← c .before .content-holds .ensures,
-      ← c .before .before .before .before .word .ensures,
+      ← c .before .before .before .before .known .ensures,
       ← c .before .before .before .instant-holds .ensures,
       not-false (c .before .before .before .instant-holds .result) (c .before .before .if1 .left),
       not-false (c .before .content-holds .result) (c .if2 .left),

@@ -6,14 +6,14 @@ use borrow.Author.Needs.{needs}
 use Rattle.trace.proofs.Laws.{trace-is}
 use Rattle.arrays.specs.Arrays.{Arrays}
 use Rattle.kernel.proofs.Ticks.{stateOf}
-use Rattle.kernel.proofs.Ready.{sizes, may-run, call-is}
+use Rattle.kernel.proofs.Ready.{sizes, may-run, rows-distinct, call-is}
 use Rattle.kernel.proofs.run_accepted.Statement.{statement}
 use Rattle.kernel.proofs.run_accepted.Tie as tie
 
 run-ticks-requires : tie.Need-run-ticks-requires
 run-ticks-requires c κs = (
   rw (c .before .before .before .before .before .before .before .before .before .before .before .before .schedule-of .ensures) (may-run (c .before .before .before .before .before .before .before .before .before .before .before .before .before .before .before .before .args .plan .now) (c .before .before .before .before .before .before .before .before .before .before .before .before .before .before .before .before .args .events .now) (c .before .before .before .before .before .before .before .before .before .before .before .before .before .before .before .before .args .state) (c .before .before .before .before .before .before .before .before .before .before .before .before .before .before .before .before .args .asked) (c .before .before .before .before .before .before .before .before .before .before .before .before .before .before .before .before .pre)),
-  rw (c .before .before .before .before .before .before .before .before .tasks-of .ensures, c .before .before .before .before .before .before .before .latched-of .ensures, c .before .before .before .before .before .before .held-of .ensures) (sizes (c .before .before .before .before .before .before .before .before .before .before .before .before .before .before .before .before .args .plan .now) (c .before .before .before .before .before .before .before .before .before .before .before .before .before .before .before .before .args .events .now) (c .before .before .before .before .before .before .before .before .before .before .before .before .before .before .before .before .args .state) (c .before .before .before .before .before .before .before .before .before .before .before .before .before .before .before .before .args .asked) (c .before .before .before .before .before .before .before .before .before .before .before .before .before .before .before .before .pre)),
+  (rw (c .before .before .before .before .before .before .before .before .tasks-of .ensures, c .before .before .before .before .before .before .before .latched-of .ensures, c .before .before .before .before .before .before .held-of .ensures) (sizes (c .before .before .before .before .before .before .before .before .before .before .before .before .before .before .before .before .args .plan .now) (c .before .before .before .before .before .before .before .before .before .before .before .before .before .before .before .before .args .events .now) (c .before .before .before .before .before .before .before .before .before .before .before .before .before .before .before .before .args .state) (c .before .before .before .before .before .before .before .before .before .before .before .before .before .before .before .before .args .asked) (c .before .before .before .before .before .before .before .before .before .before .before .before .before .before .before .before .pre)), rw (c .before .before .before .before .before .before .before .before .before .before .before .before .schedule-of .ensures) (rows-distinct (c .before .before .before .before .before .before .before .before .before .before .before .before .before .before .before .before .args .plan .now) (c .before .before .before .before .before .before .before .before .before .before .before .before .before .before .before .before .args .events .now) (c .before .before .before .before .before .before .before .before .before .before .before .before .before .before .before .before .args .state) (c .before .before .before .before .before .before .before .before .before .before .before .before .before .before .before .before .args .asked) (c .before .before .before .before .before .before .before .before .before .before .before .before .before .before .before .before .pre))),
 )
 
 returns : tie.Need-returns

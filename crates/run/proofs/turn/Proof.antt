@@ -7,19 +7,25 @@ use Rattle.run.proofs.turn.Statement.{statement}
 use Rattle.run.proofs.turn.Tie as tie
 
 rest-requires : tie.Need-rest-requires
-rest-requires c κs = (c .before .before .before .before .before .before .before .before .before .before .pre .0 .place, c .before .before .before .before .before .before .before .before .before .before .pre .1 .1 .1 .2)
+rest-requires c κs = ((c .before .before .before .before .before .before .before .before .before .before .before .pre .0 .rows, c .before .before .before .before .before .before .before .before .before .before .before .pre .0 .place, c .before .before .before .before .before .before .before .before .before .before .before .pre .1 .1 .1 .0 .2), c .before .before .before .before .before .before .before .before .before .before .before .pre .1 .1 .1 .1 .instants)
 
 returns : tie.Need-returns
-returns c = (c .before .before .rest .ensures _ _ _ _ _ (c .before .before .before .before .before .before .before .before .before .before .before .before .before .pre .1 .1 .1 .0), λ e f. absurd (true≢false (sym (c .before .before .before .before .if1 .taken) ∙ e)))
+returns c = (
+  c .before .before .rest .ensures .0 _ _ _ _ _ (c .before .before .before .before .before .before .before .before .before .before .before .before .before .before .pre .1 .1 .1 .0 .0),
+  (λ e f. absurd (true≢false (sym (c .before .before .before .before .before .if1 .taken) ∙ e)), record { distinct = c .before .before .before .before .before .before .before .before .before .before .before .before .before .before .pre .1 .1 .1 .1 .distinct; event-driven = c .before .before .before .before .before .before .before .before .before .before .before .before .before .before .pre .1 .1 .1 .1 .event-driven; instants = c .before .before .rest .ensures .1 }),
+)
 
 -- a number above 0 is one more than another
 one-more : (n : ℕ) → 0 < n → suc (n - 1) ≡ n
 one-more n h = omega arith
 
+tick-once-requires : tie.Need-tick-once-requires
+tick-once-requires c κs = (c .before .before .before .before .before .before .before .before .before .before .before .before .before .before .before .pre .0, (c .before .before .before .before .before .before .before .before .before .before .before .before .before .before .before .pre .1 .0, (c .before .before .before .before .before .before .before .before .before .before .before .before .before .before .before .pre .1 .1 .0, (c .before .before .before .before .before .before .before .before .before .before .before .before .before .before .before .pre .1 .1 .1 .0 .0, c .before .before .before .before .before .before .before .before .before .before .before .before .before .before .before .pre .1 .1 .1 .1))))
+
 returns-2 : tie.Need-returns-2
 returns-2 c = (
-  rw (one-more _ (c .before .before .before .before .before .before .before .before .before .before .before .before .before .before .before .before .before .before .before .before .before .before .before .before .before .pre .1 .1 .1 .1)) at (c .before .before .before .before .before .before .before .before .before .before .tick-once .ensures .0 (c .before .before .before .before .before .before .before .before .before .before .before .before .before .before .before .before .before .before .before .before .before .before .before .before .before .args .left - 1)),
-  λ e f. let t = rw f at (c .before .before .before .before .before .before .before .before .before .before .tick-once .ensures .1) in omega arith,
+  rw (one-more _ (c .before .before .before .before .before .before .before .before .before .before .before .before .before .before .before .before .before .before .before .before .before .before .before .before .before .before .pre .1 .1 .1 .0 .1)) at (c .before .before .before .before .before .before .before .before .before .before .tick-once .ensures .0 (c .before .before .before .before .before .before .before .before .before .before .before .before .before .before .before .before .before .before .before .before .before .before .before .before .before .before .args .left - 1)),
+  (λ e f. let t = rw f at (c .before .before .before .before .before .before .before .before .before .before .tick-once .ensures .1 .0) in omega arith, c .before .before .before .before .before .before .before .before .before .before .tick-once .ensures .1 .1),
 )
 
 pub turn-spec : {M : Type 1} → statement M
@@ -29,7 +35,7 @@ turn-spec =
     rest-requires
     (λ c. search needs)
     returns
-    (λ c κs. search needs)
+    tick-once-requires
     (λ c. search needs)
     (λ c. search needs)
     (λ c. search needs)

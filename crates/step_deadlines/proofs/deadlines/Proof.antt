@@ -1,62 +1,83 @@
-use Prim.Native.Nat.{ℕ, _≤_, _+_, _*_, _-_, _^_}
-use native.Mathlib.Nat.{sub-zero}
+use Prim.Native.Nat.{ℕ, _≤_, _<_, _+_, _*_, _-_, _^_}
 use native.Mathlib.Omega.{arith}
-use mathlib.Core.Path.{_≡_, refl, _∙_}
+use mathlib.Core.Path.{_≡_, refl}
+use mathlib.Core.Bool.{true}
 use mathlib.Core.List.{List}
 use lib.ListN.{length}
 use borrow.Author.Needs.{needs}
+use Rattle.marks.specs.Marks.{has}
+use Rattle.turns.proofs.Laws.{next-from, next-below, next-at}
 use Rattle.trace.specs.Trace.{over}
 use Rattle.arrays.specs.Arrays.{Arrays}
-use Rattle.steps.specs.Flat.{lapse, eachRow}
-use Rattle.steps.proofs.Laws.{Sofar, sofar-more, rows-done}
+use Rattle.steps.specs.Flat.{lapse, called}
+use Rattle.steps.proofs.Laws.{Sofar, sofar-none, rows-done}
+use Rattle.steps.proofs.Called.{sofar-next, sofar-called}
 use Rattle.step_deadlines.proofs.deadlines.Statement.{statement}
 use Rattle.step_deadlines.proofs.deadlines.Tie as tie
 
 abbrev arrays : List ℕ → List ℕ → List ℕ → List ℕ → Arrays
 arrays signals tasks latched held = record { signals = signals; tasks = tasks; latched = latched; held = held }
 
-record Kept (rows : List ℕ) (count t : ℕ) (held signals₀ tasks₀ trace₀ : List ℕ) (from : ℕ) (signals tasks trace : List ℕ) (at j : ℕ) : Type 0 where
-  most : j ≤ count
-  room : at ≤ from + j * 2 ^ 35
+-- `turns` is how many rows had theirs: each adds so many words at most
+record Kept (rows : List ℕ) (count t calls : ℕ) (held signals₀ tasks₀ trace₀ : List ℕ) (from : ℕ) (signals tasks trace : List ℕ) (at j : ℕ) : Type 0 where
+  here : j < count → has calls j ≡ true
+  turns : ℕ
+  passed : turns ≤ j
+  most : turns ≤ count
+  room : at ≤ from + turns * 2 ^ 35
   signals-long : length signals ≡ length signals₀
   tasks-long : length tasks ≡ length tasks₀
   trace-long : length trace ≡ length trace₀
-  sofar : (latched : List ℕ) → Sofar (lapse t rows) count (arrays signals₀ tasks₀ latched held) trace₀ from (arrays signals tasks latched held) trace at j
+  sofar : (latched : List ℕ) → Sofar (called calls (lapse t rows)) count (arrays signals₀ tasks₀ latched held) trace₀ from (arrays signals tasks latched held) trace at j
 
 abbrev Inv-loop : tie.InvT-loop
-Inv-loop rows count t held signals₀ tasks₀ trace₀ from at₀ j₀ signals tasks trace at j =
-    Kept rows count t held signals₀ tasks₀ trace₀ from signals tasks trace at j
+Inv-loop rows count t calls held signals₀ tasks₀ trace₀ from at₀ j₀ signals tasks trace at j = Kept rows count t calls held signals₀ tasks₀ trace₀ from signals tasks trace at j
 
 abbrev μ-loop : tie.MeasureT-loop
-μ-loop rows count t held signals₀ tasks₀ trace₀ from at₀ j₀ signals tasks trace at j = count - j
+μ-loop rows count t calls held signals₀ tasks₀ trace₀ from at₀ j₀ signals tasks trace at j = count - j
 
 loop-holds : tie.Need-loop-holds Inv-loop μ-loop
-loop-holds c = record {
-  most = search needs;
-  room = search needs;
-  signals-long = refl;
-  tasks-long = refl;
-  trace-long = refl;
-  sofar = λ latched. record { arrays = rw sub-zero; trace = rw sub-zero; ends = rw sub-zero };
-}
+loop-holds c =
+    let e = c .next .ensures in
+    record {
+      here = λ h. next-at _ 0 _ e (omega arith);
+      turns = 0;
+      passed = search needs;
+      most = search needs;
+      room = search needs;
+      signals-long = refl;
+      tasks-long = refl;
+      trace-long = refl;
+      sofar = λ latched. sofar-next _ _ _ _ _ _ _ _ _ _ _ (next-from _ 0 _ e) (next-below _ 0 _ e) (sofar-none _ _ _ _ _);
+    }
 
 lapse-row-requires : tie.Need-lapse-row-requires Inv-loop μ-loop
 lapse-row-requires c κs = let r = c .before .before .before .before .loop .inv .room in let m = c .before .before .before .before .loop .inv .most in omega arith
 
+loop-less : tie.Need-loop-less Inv-loop μ-loop
+loop-less c = let l = c .before .before .before .before .before .before .before .before .before .before .before .loop-test .taken in let m = next-from _ _ _ (c .next2 .ensures) in omega arith
+
 loop-again : tie.Need-loop-again Inv-loop μ-loop
 loop-again c =
-    let s = c .before .before .before .before .before .before .before .before .before .before .before .loop .inv in
+    let s = c .before .before .before .before .before .before .before .before .before .before .before .before .loop .inv in
     let r = s .room in
-    let near = c .before .before .before .before .before .before .lapse-row .ensures .1 in
+    let p = s .passed in
+    let l = c .before .before .before .before .before .before .before .before .before .before .before .loop-test .taken in
+    let near = c .before .before .before .before .before .before .before .lapse-row .ensures .1 in
+    let e = c .next2 .ensures in
+    let m = next-from _ _ _ e in
     record {
-      most = search needs;
+      here = λ h. next-at _ _ _ e (omega arith);
+      turns = s .turns + 1;
+      passed = omega arith;
+      most = omega arith;
       room = omega arith;
       signals-long = search needs;
       tasks-long = search needs;
       trace-long = search needs;
       sofar = λ latched.
-          let e = c .before .before .before .before .before .before .lapse-row .ensures .0 latched in
-          rw (e .arrays, e .trace, e .ends) (sofar-more _ _ _ _ _ _ _ _ _ (c .before .before .before .before .before .before .before .before .before .before .loop-test .taken) (s .sofar latched));
+          let d = c .before .before .before .before .before .before .before .lapse-row .ensures .0 latched in
+          sofar-next _ _ _ _ _ _ _ _ _ _ _ m (next-below _ _ _ e) (rw (d .arrays, d .trace, d .ends) (sofar-called _ _ _ _ _ _ _ _ _ _ l (s .here l) (s .sofar latched)));
     }
 
 same-length : tie.Need-same-length Inv-loop μ-loop
@@ -73,7 +94,7 @@ unfolding over
 returns c = (
   λ latched.
       let s = c .before .loop .inv .sofar latched in
-      let d = rows-done (lapse (c .before .before .before .before .before .before .before .args .t) (c .before .before .before .before .before .before .before .args .rows .now)) (c .before .before .before .before .before .before .before .args .count) (c .before .loop .j) (arrays (c .before .loop .signals) (c .before .loop .tasks) latched (c .before .before .before .before .before .before .before .args .held .now)) (c .loop-test .left) in
+      let d = rows-done (called (c .before .before .before .before .before .before .before .before .args .calls) (lapse (c .before .before .before .before .before .before .before .before .args .t) (c .before .before .before .before .before .before .before .before .args .rows .now))) (c .before .before .before .before .before .before .before .before .args .count) (c .before .loop .j) (arrays (c .before .loop .signals) (c .before .loop .tasks) latched (c .before .before .before .before .before .before .before .before .args .held .now)) (c .loop-test .left) in
       record { arrays = rw (s .arrays, d); trace = rw (s .trace, d); ends = rw (s .ends, d) (omega arith) },
   let r = c .before .loop .inv .room in let m = c .before .loop .inv .most in omega arith,
 )
@@ -84,10 +105,12 @@ deadlines-spec =
     (tie.spec
     Inv-loop
     μ-loop
+    (λ c κs. search needs)
     loop-holds
     lapse-row-requires
     (λ c. search needs)
-    (λ c. search needs)
+    (λ c κs. search needs)
+    loop-less
     loop-again
     same-length
     same-length-2

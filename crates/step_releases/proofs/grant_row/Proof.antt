@@ -7,54 +7,47 @@ use borrow.Author.Needs.{needs}
 use borrow.Author.Tests.{ne-eqb}
 use Rattle.trace.specs.Trace.{over, entry, ignoredKind}
 use Rattle.steps.specs.Flat.{grant, answerRow}
-use Rattle.step_releases.proofs.Laws.{call-none, call-ready, call-events, call-due}
+use Rattle.step_releases.proofs.Laws.{call-none, call-ready, call-events, call-overrun, call-closed}
 use Rattle.step_releases.proofs.grant_row.Statement.{statement}
 use Rattle.step_releases.proofs.grant_row.Tie as tie
 
 returns : tie.Need-returns
 unfolding grant answerRow over
-returns c = (λ held. rw (call-none _ _ _ _ _ (sym (c .before .asked-of .ensures) ∙ c .if1 .taken)) (record { arrays = refl; trace = refl; ends = omega arith }), omega arith)
+returns c = (
+  λ held.
+      rw (call-closed _ (c .before .before .before .before .before .before .before .before .before .before .before .before .before .args .rows .now) _ (c .before .before .before .before .before .before .before .before .before .before .before .before .before .args .row) (c .before .before .before .before .before .before .before .before .before .before .before .before .before .args .tasks .now) (rw (c .before .before .before .before .before .row-field2 .ensures, c .before .before .before .before .row-field3 .ensures, c .before .before .task-field .ensures, c .before .before .before .before .before .before .row-field .ensures) at (sym (c .before .is-closed .ensures) ∙ c .if1 .taken)))
+      (record { arrays = refl; trace = refl; ends = omega arith }),
+  omega arith,
+)
 
 returns-2 : tie.Need-returns-2
 unfolding grant answerRow over
-returns-2 c = (
+returns-2 c = (λ held. rw (call-none _ _ _ _ _ (sym (c .before .asked-of .ensures) ∙ c .if2 .taken)) (record { arrays = refl; trace = refl; ends = omega arith }), omega arith)
+
+returns-3 : tie.Need-returns-3
+unfolding grant answerRow over
+returns-3 c = (
   λ held.
-      rw (call-ready _ _ _ _ _ (rw (c .before .before .before .before .before .before .before .before .before .before .before .before .before .before .before .before .before .before .before .before .before .before .row-field .ensures) at (sym (c .before .before .before .before .before .before .before .before .before .before .before .before .before .before .before .before .before .before .task-field .ensures) ∙ c .before .before .before .before .before .before .before .before .before .before .before .before .before .before .before .if2 .taken)), ← c .before .before .before .before .before .before .before .before .before .before .before .before .before .before .before .before .before .asked-of .ensures, ne-eqb _ _ (c .before .before .before .before .before .before .before .before .before .before .before .before .before .before .before .before .if1 .left))
+      rw (call-ready _ _ _ _ _ (rw (c .before .before .before .before .before .before .before .before .before .before .before .before .before .before .before .before .before .before .before .before .before .before .before .before .row-field .ensures) at (sym (c .before .before .before .before .before .before .before .before .before .before .before .before .before .before .before .before .before .before .before .before .task-field .ensures) ∙ c .before .before .before .before .before .before .before .before .before .before .before .before .before .before .before .if3 .taken)), ← c .before .before .before .before .before .before .before .before .before .before .before .before .before .before .before .before .before .asked-of .ensures, ne-eqb _ _ (c .before .before .before .before .before .before .before .before .before .before .before .before .before .before .before .before .if2 .left))
       (record {
         arrays = rw (c .before .before .before .before .before .before .before .before .before .before .before .before .start-row .ensures .tasks, c .before .before .before .before .before .before .before .before .before .before .before .before .start-row .ensures .latched);
-        trace = rw (← c .before .before .before .before .before .before .before .before .before .before .before .before .before .before .before .before .before .before .before .before .before .before .row-field .ensures) (c .before .before .ignore .ensures .trace ∙ ap (λ (l : List ℕ). over l (c .before .before .before .before .before .before .before .before .before .before .before .before .before .before .before .before .before .before .before .before .before .before .before .before .before .before .before .before .before .args .from + 5) (replicate (c .before .before .before .before .before .before .before .before .before .before .before .before .before .before .before .before .before .asked-of .result - 1) (entry (c .before .before .before .before .before .before .before .before .before .before .before .before .before .before .before .before .before .before .before .before .before .before .before .before .before .before .before .before .before .args .moment .t) ignoredKind (c .before .before .before .before .before .before .before .before .before .before .before .before .before .before .before .before .before .before .before .before .before .before .row-field .result)))) (c .before .before .before .before .before .before .put .ensures));
+        trace = rw (← c .before .before .before .before .before .before .before .before .before .before .before .before .before .before .before .before .before .before .before .before .before .before .before .before .row-field .ensures) (c .before .before .ignore .ensures .trace ∙ ap (λ (l : List ℕ). over l (c .before .before .before .before .before .before .before .before .before .before .before .before .before .before .before .before .before .before .before .before .before .before .before .before .before .before .before .before .before .before .before .args .from + 5) (replicate (c .before .before .before .before .before .before .before .before .before .before .before .before .before .before .before .before .before .asked-of .result - 1) (entry (c .before .before .before .before .before .before .before .before .before .before .before .before .before .before .before .before .before .before .before .before .before .before .before .before .before .before .before .before .before .before .before .args .moment .t) ignoredKind (c .before .before .before .before .before .before .before .before .before .before .before .before .before .before .before .before .before .before .before .before .before .before .before .before .row-field .result)))) (c .before .before .before .before .before .before .put .ensures));
         ends = simp length-replicate (let e = c .before .before .ignore .ensures .ends in omega arith);
       }),
   let e = c .before .before .ignore .ensures .ends in omega arith,
 )
 
-returns-3 : tie.Need-returns-3
+returns-4 : tie.Need-returns-4
 unfolding grant answerRow
-returns-3 c = (
+returns-4 c = (
   λ held.
-      rw (call-events _ _ _ _ _ (λ z. c .before .before .before .before .before .if2 .left (c .before .before .before .before .before .before .before .before .task-field .ensures ∙ rw (c .before .before .before .before .before .before .before .before .before .before .before .before .row-field .ensures) z)) (sym (c .before .before .before .before .before .before .before .before .before .before .before .row-field2 .ensures) ∙ c .before .before .before .before .if3 .taken), ← c .before .before .before .before .before .before .before .asked-of .ensures)
+      rw (call-events _ _ _ _ _ (λ z. c .before .before .before .before .before .if3 .left (c .before .before .before .before .before .before .before .before .before .before .task-field .ensures ∙ rw (c .before .before .before .before .before .before .before .before .before .before .before .before .before .before .row-field .ensures) z)) (sym (c .before .before .before .before .before .before .before .before .before .before .before .before .before .row-field2 .ensures) ∙ c .before .before .before .before .if4 .taken), ← c .before .before .before .before .before .before .before .asked-of .ensures)
       (record {
         arrays = refl;
-        trace = rw (← c .before .before .before .before .before .before .before .before .before .before .before .before .row-field .ensures) (c .before .before .ignore2 .ensures .trace);
+        trace = rw (← c .before .before .before .before .before .before .before .before .before .before .before .before .before .before .row-field .ensures) (c .before .before .ignore2 .ensures .trace);
         ends = simp length-replicate (let e = c .before .before .ignore2 .ensures .ends in omega arith);
       }),
   let e = c .before .before .ignore2 .ensures .ends in omega arith,
-)
-
-returns-4 : tie.Need-returns-4
-unfolding grant answerRow over
-returns-4 c = (
-  λ held.
-      rw (
-        call-due _ _ _ _ _ (λ z. c .before .before .before .before .before .before .before .before .before .before .if2 .left (c .before .before .before .before .before .before .before .before .before .before .before .before .before .task-field .ensures ∙ rw (c .before .before .before .before .before .before .before .before .before .before .before .before .before .before .before .before .before .row-field .ensures) z)) (λ z. c .before .before .before .before .before .before .before .before .before .if3 .left (c .before .before .before .before .before .before .before .before .before .before .before .before .before .before .before .before .row-field2 .ensures ∙ z)) (λ z. c .before .before .before .before .before .before .before .before .before .before .before .if1 .left (c .before .before .before .before .before .before .before .before .before .before .before .before .asked-of .ensures ∙ z)),
-        ← c .before .before .before .before .before .before .before .before .before .before .before .before .before .before .before .before .before .row-field .ensures,
-        ← c .before .before .before .before .before .before .before .before .before .before .before .before .before .before .before .row-field3 .ensures,
-        ← c .before .before .before .before .before .before .before .before .before .before .before .before .before .task-field .ensures,
-        c .before .before .before .before .before .before .before .before .if4 .taken,
-        ← c .before .before .before .before .before .before .before .before .before .before .before .before .before .before .before .before .before .row-field .ensures,
-      )
-      (record { arrays = rw (c .before .before .reset-task .ensures); trace = c .before .before .before .before .before .before .put2 .ensures; ends = omega arith }),
-  omega arith,
 )
 
 returns-5 : tie.Need-returns-5
@@ -62,13 +55,11 @@ unfolding grant answerRow over
 returns-5 c = (
   λ held.
       rw (
-        call-due _ _ _ _ _ (λ z. c .before .before .if2 .left (c .before .before .before .before .before .task-field .ensures ∙ rw (c .before .before .before .before .before .before .before .before .before .row-field .ensures) z)) (λ z. c .before .if3 .left (c .before .before .before .before .before .before .before .before .row-field2 .ensures ∙ z)) (λ z. c .before .before .before .if1 .left (c .before .before .before .before .asked-of .ensures ∙ z)),
-        ← c .before .before .before .before .before .before .before .before .before .row-field .ensures,
-        ← c .before .before .before .before .before .before .before .row-field3 .ensures,
-        ← c .before .before .before .before .before .task-field .ensures,
-        c .if4 .left,
+        call-overrun _ (c .before .before .before .before .before .before .before .before .before .before .before .before .before .before .before .before .before .before .before .before .before .before .before .before .before .args .rows .now) _ (c .before .before .before .before .before .before .before .before .before .before .before .before .before .before .before .before .before .before .before .before .before .before .before .before .before .args .row) (c .before .before .before .before .before .before .before .before .before .before .before .before .before .before .before .before .before .before .before .before .before .before .before .before .before .args .tasks .now) (λ z. c .before .before .before .before .before .before .before .before .before .if3 .left (c .before .before .before .before .before .before .before .before .before .before .before .before .before .before .task-field .ensures ∙ rw (c .before .before .before .before .before .before .before .before .before .before .before .before .before .before .before .before .before .before .row-field .ensures) z)) (λ z. c .before .before .before .before .before .before .before .before .if4 .left (c .before .before .before .before .before .before .before .before .before .before .before .before .before .before .before .before .before .row-field2 .ensures ∙ z)) (λ z. c .before .before .before .before .before .before .before .before .before .before .if2 .left (c .before .before .before .before .before .before .before .before .before .before .before .asked-of .ensures ∙ z))
+            (rw (c .before .before .before .before .before .before .before .before .before .before .before .before .before .before .before .before .before .row-field2 .ensures, c .before .before .before .before .before .before .before .before .before .before .before .before .before .before .before .before .row-field3 .ensures, c .before .before .before .before .before .before .before .before .before .before .before .before .before .before .task-field .ensures, c .before .before .before .before .before .before .before .before .before .before .before .before .before .before .before .before .before .before .row-field .ensures) at (sym (c .before .before .before .before .before .before .before .before .before .before .before .before .before .is-closed .ensures) ∙ c .before .before .before .before .before .before .before .before .before .before .before .before .if1 .left)),
+        ← c .before .before .before .before .before .before .before .before .before .before .before .before .before .before .before .before .before .before .row-field .ensures,
       )
-      (record { arrays = refl; trace = refl; ends = omega arith }),
+      (record { arrays = rw (c .before .before .reset-task .ensures); trace = c .before .before .before .before .before .before .put2 .ensures; ends = omega arith }),
   omega arith,
 )
 
@@ -84,23 +75,24 @@ grant-row-spec =
     (λ c. search needs)
     returns
     (λ c κs. search needs)
-    (λ c κs. search needs)
-    (λ c. search needs)
-    (λ c. search needs)
-    (λ c κs. search needs)
-    (λ c. search needs)
-    (λ c. search needs)
     (λ c. search needs)
     returns-2
     (λ c κs. search needs)
+    (λ c κs. search needs)
+    (λ c. search needs)
+    (λ c. search needs)
+    (λ c κs. search needs)
+    (λ c. search needs)
     (λ c. search needs)
     (λ c. search needs)
     returns-3
     (λ c κs. search needs)
-    (λ c κs. search needs)
-    (λ c. search needs)
     (λ c. search needs)
     (λ c. search needs)
     returns-4
+    (λ c κs. search needs)
+    (λ c κs. search needs)
+    (λ c. search needs)
+    (λ c. search needs)
     (λ c. search needs)
     returns-5)

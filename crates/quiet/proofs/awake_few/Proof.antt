@@ -1,0 +1,42 @@
+use Prim.Native.Nat.{_-_, _<_, _≤_}
+use native.Mathlib.Omega.{arith}
+use lib.ListN.{getD}
+use lib.Dec.{leb}
+use Rattle.marks.proofs.Laws.{one-shl}
+use Rattle.quiet.specs.Quiet.{AllIn}
+use Rattle.quiet.proofs.Wakes.{all-more}
+use borrow.Author.Needs.{needs}
+use Rattle.quiet.proofs.awake_few.Statement.{statement}
+use Rattle.quiet.proofs.awake_few.Tie as tie
+
+abbrev Inv-loop : tie.InvT-loop
+Inv-loop count wakes t calls₀ j₀ calls j = (j ≤ count) × AllIn (λ k. leb (getD wakes k 0) t) j calls
+
+abbrev μ-loop : tie.MeasureT-loop
+μ-loop count wakes t calls₀ j₀ calls j = count - j
+
+loop-holds : tie.Need-loop-holds Inv-loop μ-loop
+loop-holds c = (search needs, λ k h. absurd (omega (arith, h)))
+
+loop-again : tie.Need-loop-again Inv-loop μ-loop
+loop-again c = (search needs, all-more _ _ _ _ (c .before .before .before .loop .inv .1) (rw (one-shl 32 {k = c .before .before .before .loop .j} (let few = c .before .before .before .before .pre in let here = c .before .before .loop-test .taken in omega arith)) at (c .bits-if .ensures)))
+
+returns : tie.Need-returns Inv-loop μ-loop
+returns c = λ k h. c .before .loop .inv .1 k (omega (arith, h, c .loop-test .left))
+
+pub awake-few-spec : {M : Type 1} → statement M
+awake-few-spec =
+    tie.close
+    (tie.spec
+    Inv-loop
+    μ-loop
+    loop-holds
+    (λ c. search needs)
+    (λ c. search needs)
+    (λ c. search needs)
+    (λ c. search needs)
+    (λ c κs. search needs)
+    (λ c. search needs)
+    (λ c. search needs)
+    loop-again
+    returns)
