@@ -3,6 +3,7 @@ use Prim.Native.Nat.{ℕ, zero, suc, _+_, _*_}
 use mathlib.Core.Path.{_≡_}
 use mathlib.Core.List.{List, []}
 use lib.ListN.{length, getD, set}
+use Rattle.limits.specs.Limits.{maxSignals, maxTasks, maxPorts}
 use Rattle.trace.specs.Trace.{over}
 use Rattle.trace.specs.declared.Entry.{Entry}
 
@@ -13,6 +14,13 @@ pub record Arrays : Type 0 where
   pub tasks : List ℕ
   pub latched : List ℕ
   pub held : List ℕ
+
+-- they have their lengths
+pub record Sized (a : Arrays) : Type 0 where
+  pub signals : length (a .signals) ≡ maxSignals
+  pub tasks : length (a .tasks) ≡ maxTasks * 4
+  pub latched : length (a .latched) ≡ maxTasks * maxPorts
+  pub held : length (a .held) ≡ maxTasks * maxPorts
 
 -- the statuses as numbers
 abbrev pub ready : ℕ

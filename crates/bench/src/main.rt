@@ -10,7 +10,7 @@ const PLAN_BYTES: usize = limits::PLAN_BYTES;
 const EVENT_BYTES: usize = limits::EVENT_BYTES;
 
 // Words of the trace lent to every call.
-const TRACE_WORDS: usize = 15_000;
+const TRACE_WORDS: usize = limits::TRACE_WORDS;
 
 // What a pass is: so many calls, of so many ticks where ticks are run.
 struct Workload {

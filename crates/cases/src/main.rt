@@ -10,7 +10,7 @@ use state::TaskState;
 use words::word;
 
 // The largest case.
-const TRACE_WORDS: u32 = 15_000;
+const TRACE: usize = limits::TRACE_WORDS;
 
 const PLAN_BYTES: usize = 41_752;
 
@@ -23,8 +23,6 @@ const TASKS: usize = limits::TASKS as usize;
 const SIGNALS: usize = limits::SIGNALS as usize;
 
 const PORTS: usize = limits::PORTS as usize;
-
-const TRACE: usize = 15_000;
 
 // A number and what stands before it.
 fn print(before: &[u8], n: u32) {
@@ -313,7 +311,7 @@ fn one_case() -> bool {
     if got == 0 {
         return false;
     }
-    if (got < 24) | (TRACE_WORDS < word(&head, 2)) {
+    if (got < 24) | (TRACE < word(&head, 2) as usize) {
         return bad_case();
     }
     let plan_bytes = word(&head, 3) as usize;

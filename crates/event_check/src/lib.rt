@@ -18,7 +18,7 @@ fn size_holds(events: &[u8]) -> bool
     ensures { λ r. ⌜ r ≡ eventSizeRule (now (events .entry)) ⌝ }
 {
     let size = events.len();
-    (size % 16 == 0) & (size <= limits::EVENT_BYTES)
+    (size % limits::EVENT_SIZE == 0) & (size <= limits::EVENT_BYTES)
 }
 
 // The signals that the tasks of a plan write, as marks.
@@ -153,7 +153,7 @@ fn list_answer(plan: &[u8], events: &[u8]) -> Answer
         return Answer::EventSize;
     }
     let targets = targets_of(plan);
-    all_events(events, (events.len() / 16) as u32, targets)
+    all_events(events, (events.len() / limits::EVENT_SIZE) as u32, targets)
 }
 
 // The number and place of a plan with an event list: 0, or those of the first broken rule.

@@ -27,7 +27,7 @@ pub enum Reading {
 pub fn read_at(events: &[u8], place: usize) -> Reading
     ensures { λ r. ⌜ r ≡ readAt (now (events .entry)) place ⌝ }
 {
-    let records = events.len() / 16;
+    let records = events.len() / limits::EVENT_SIZE;
     if place < records {
         let at = place * 4;
         Reading::Record {
@@ -46,7 +46,7 @@ pub fn read_at(events: &[u8], place: usize) -> Reading
 fn place_after(events: &[u8], place: usize) -> usize
     ensures { λ r. ⌜ r ≡ placeAfter (now (events .entry)) place ⌝ }
 {
-    if place < events.len() / 16 {
+    if place < events.len() / limits::EVENT_SIZE {
         place + 1
     } else {
         place

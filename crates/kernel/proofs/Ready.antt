@@ -25,7 +25,7 @@ use Rattle.state.specs.declared.State.{State}
 use Rattle.state.proofs.Laws.{events-parted}
 use Rattle.state.proofs.Fitting.{fits-exactly}
 use Rattle.tick.specs.Tick.{tick}
-use Rattle.step.specs.Step.{Sizes}
+use Rattle.arrays.specs.Arrays.{Sized}
 use Rattle.step.specs.declared.Clock.{Clock}
 use Rattle.quiet.specs.Quiet.{Distinct}
 use Rattle.run.specs.Run.{Asked, runFlat}
@@ -64,8 +64,8 @@ module _ (planBytes eventBytes : List ℕ) (s : State) (asked : ℕ) (good : cal
   state-is : stateOf (s .tick) (passed (s .tick) (eventsOf eventBytes)) (apart s) ≡ s
   state-is = rw (whole-apart s (fitting .sizes), ← fitting .place)
 
-  pub sizes : Sizes (apart s)
-  sizes = let z = apart-sized s (fitting .sizes) in record { signals = z .signals; tasks = z .tasks; latched = z .latched; held = z .held }
+  pub sizes : Sized (apart s)
+  sizes = apart-sized s (fitting .sizes)
 
   -- a run may be asked of the arrays
   pub may-run : Asked (scheduleOf planBytes .count) (eventCount eventBytes) asked (record { tick = s .tick; place = s .place; at = 0 })

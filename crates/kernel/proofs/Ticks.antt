@@ -14,12 +14,12 @@ use Rattle.plan.specs.Rules.{planVerdict}
 use Rattle.plan_schedule.specs.Schedule.{scheduleOf}
 use Rattle.events.specs.Events.{Event, eventsOf, passed, eventCount, eventsVerdict}
 use Rattle.state.specs.declared.State.{State}
-use Rattle.arrays.specs.Arrays.{Arrays, Step}
+use Rattle.arrays.specs.Arrays.{Arrays, Step, Sized}
 use Rattle.tick.specs.Tick.{Moment, Ticked, eventsAt, tick, ends}
 use Rattle.steps.specs.Flat.{runsFlat, endFrom, between}
 use Rattle.step.specs.Step.{Given, given, placeAfter, withEvents, stepFlat}
 use Rattle.run.specs.Run.{Went, halted, further, runFlat}
-use Rattle.whole.specs.Whole.{whole, momentOf, Sized}
+use Rattle.whole.specs.Whole.{whole, momentOf}
 use Rattle.whole.proofs.Schedule.{rows-of}
 use Rattle.whole.proofs.Events.{ends-next, events-between}
 use Rattle.whole.proofs.Running.{served-by}

@@ -23,4 +23,10 @@ pub const PLAN_BYTES: usize = 20_564;
 
 pub const EVENT_BYTES: usize = 16_384;
 
+// An event: "Records of four words".
+pub const EVENT_SIZE: usize = 16;
+
 pub const TOP_VALUE: u64 = 4_294_967_295;
+
+// The program's trace: "with a trace of 15,000 words".
+pub const TRACE_WORDS: usize = 15_000;

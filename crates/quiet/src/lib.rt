@@ -228,7 +228,7 @@ fn next_wake(count: u32, wakes: &[u32; TASKS]) -> u32
 fn next_event(events: &[u8], place: u32) -> u32
     ensures { λ r. ⌜ ((t : ℕ) → t < r → endFrom (wordsOf (now (events .entry))) t (eventCount (now (events .entry)) - place) place ≡ place) ⌝ }
 {
-    if (place as usize) < events.len() / 16 {
+    if (place as usize) < events.len() / limits::EVENT_SIZE {
         word(events, place as usize * 4)
     } else {
         NEVER

@@ -8,8 +8,8 @@ use native.Mathlib.Omega.{arith}
 use lib.ListN.{length}
 use Rattle.limits.specs.Limits.{maxTime}
 use Rattle.trace.specs.Trace.{over}
-use Rattle.arrays.specs.Arrays.{Arrays}
-use Rattle.step.specs.Step.{Given, Sizes, Ready}
+use Rattle.arrays.specs.Arrays.{Arrays, Sized}
+use Rattle.step.specs.Step.{Given, Ready}
 use Rattle.step.specs.declared.Clock.{Clock}
 use Rattle.run.specs.Run.{Went, runFlat, Sofar, leftAfter, Turned, Asked, Ends}
 use Rattle.run.specs.declared.Ran.{Ran}
@@ -28,13 +28,13 @@ pub record Kept (g : Given) (asked : ℕ) (a₀ : Arrays) (trace₀ : List ℕ) 
   pub place : now .place ≤ g .records
   pub near : now .at ≤ done * 2 ^ 41
   pub room : now .at ≤ length trace₀
-  pub sizes : Sizes a
+  pub sizes : Sized a
   pub long : AsLong a₀ a
   pub trace-long : length trace ≡ length trace₀
   pub sofar : Sofar (runFlat g (length trace₀) asked (clock .tick) (clock .place) a₀) (runFlat g (length trace₀ - now .at) (asked - done) (now .tick) (now .place) a) done trace₀ trace (now .at)
 
 -- before the first turn
-pub kept-none : (g : Given) (asked count : ℕ) (a : Arrays) (trace : List ℕ) (clock : Clock) → Asked count (g .records) asked clock → Sizes a → Kept g asked a trace clock a trace clock 0
+pub kept-none : (g : Given) (asked count : ℕ) (a : Arrays) (trace : List ℕ) (clock : Clock) → Asked count (g .records) asked clock → Sized a → Kept g asked a trace clock a trace clock 0
 kept-none g asked count a trace clock p s =
     let w = p .word in
     record {

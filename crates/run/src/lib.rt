@@ -7,7 +7,8 @@ ghost use Prim.Native.Nat.{ℕ, suc, _+_, _*_, _<_, _≤_, _^_};
 ghost use lib.ListN.{length};
 ghost use Rattle.limits.specs.Limits.{maxTasks};
 ghost use Rattle.events.specs.Events.{eventCount};
-ghost use Rattle.step.specs.Step.{given, Sizes, Ready};
+ghost use Rattle.arrays.specs.Arrays.{Sized};
+ghost use Rattle.step.specs.Step.{given, Ready};
 ghost use Rattle.room.specs.Room.{rowsMost};
 ghost use Rattle.quiet.specs.Quiet.{Distinct, Wakes};
 ghost use Rattle.run.specs.Run.{Watched, Asked, Ends, Turned, runFlat};
@@ -40,7 +41,7 @@ fn tick_once(
     trace: &mut [u32],
 ) -> Ran
     requires { ⌜ Ready count (eventCount (now events)) clock ⌝ }
-    requires { ⌜ Sizes (record { signals = now signals; tasks = now tasks; latched = now latched; held = now held }) ⌝ }
+    requires { ⌜ Sized (record { signals = now signals; tasks = now tasks; latched = now latched; held = now held }) ⌝ }
     requires { ⌜ (most ≡ 2 * rowsMost (now rows) count 0) × (most ≤ 2 ^ 38) ⌝ }
     requires { ⌜ clock .at ≤ length (now trace) ⌝ }
     requires { ⌜ Watched (now rows) count driven (now tasks) (clock .tick) (now wakes) ⌝ }
@@ -50,7 +51,12 @@ fn tick_once(
     ensures moves { λ r. ⌜ r .ticks ≡ cond (r .full) 0 1 ⌝ }
     ensures watched { λ r. ⌜ Watched (now (rows .entry)) count driven (now (tasks .exit)) (r .clock .tick) (now (wakes .exit)) ⌝ }
 {
-    let last = step_releases::end_of(events, clock.tick, clock.place, (events.len() / 16) as u32);
+    let last = step_releases::end_of(
+        events,
+        clock.tick,
+        clock.place,
+        (events.len() / limits::EVENT_SIZE) as u32,
+    );
     let fits = room::tick_fits(rows, count, events, clock, last, most, tasks, trace.len());
     if !fits {
         return Ran {
@@ -139,7 +145,7 @@ fn turn(
     trace: &mut [u32],
 ) -> Ran
     requires { ⌜ Ready count (eventCount (now events)) clock ⌝ }
-    requires { ⌜ Sizes (record { signals = now signals; tasks = now tasks; latched = now latched; held = now held }) ⌝ }
+    requires { ⌜ Sized (record { signals = now signals; tasks = now tasks; latched = now latched; held = now held }) ⌝ }
     requires { ⌜ (most ≡ 2 * rowsMost (now rows) count 0) × (most ≤ 2 ^ 38) ⌝ }
     requires { ⌜ (clock .at ≤ length (now trace)) × (0 < left) × (clock .tick + left < 2 ^ 31) ⌝ }
     requires { ⌜ Watched (now rows) count driven (now tasks) (clock .tick) (now wakes) ⌝ }
@@ -185,7 +191,7 @@ pub fn run_ticks(
     trace: &mut [u32],
 ) -> Ran
     requires { ⌜ Asked count (eventCount (now events)) asked clock ⌝ }
-    requires { ⌜ Sizes (record { signals = now signals; tasks = now tasks; latched = now latched; held = now held }) ⌝ }
+    requires { ⌜ Sized (record { signals = now signals; tasks = now tasks; latched = now latched; held = now held }) ⌝ }
     requires { ⌜ Distinct (now rows) count ⌝ }
     ensures { λ r. ⌜ Ends clock r (record { signals = now (signals .exit); tasks = now (tasks .exit); latched = now (latched .exit); held = now (held .exit) }) (now (trace .entry)) (now (trace .exit))
         (runFlat (given (now (plan .entry)) (now (rows .entry)) count (now (events .entry))) (length (now (trace .entry))) asked (clock .tick) (clock .place)

@@ -54,7 +54,7 @@ fn one_before(place: usize) -> usize
 fn place_holds(events: &[u8], tick: u32, place: u32) -> bool
     ensures { λ r. ⌜ r ≡ placeRule (now (events .entry)) tick place ⌝ }
 {
-    let count = events.len() / 16;
+    let count = events.len() / limits::EVENT_SIZE;
     let at = place as usize;
     let before = word(events, one_before(at) * 4);
     let next = word(events, at * 4);

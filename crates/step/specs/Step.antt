@@ -3,7 +3,7 @@ use Prim.Native.Nat.{ℕ, _+_, _-_, _*_, _<_, _≤_, _^_}
 use mathlib.Core.Path.{_≡_}
 use mathlib.Core.List.{List, _++_}
 use lib.ListN.{length}
-use Rattle.limits.specs.Limits.{maxSignals, maxTasks, maxPorts}
+use Rattle.limits.specs.Limits.{maxTasks}
 use Rattle.words.specs.Words.{wordsOf}
 use Rattle.events.specs.Events.{Event, eventCount}
 use Rattle.trace.specs.Trace.{over}
@@ -49,13 +49,6 @@ stepCalled calls g t place a =
     let s₂ = eachRow (called calls (grant t (g .rows) now)) (g .count) 0 (s₁ .arrays) in
     let s₃ = runsFlat t (g .plan) (g .rows) (g .count) (s₂ .arrays) in
     record { arrays = s₃ .arrays; entries = s₁ .entries ++ s₂ .entries ++ s₃ .entries }
-
--- the arrays have their lengths
-pub record Sizes (a : Arrays) : Type 0 where
-  pub signals : length (a .signals) ≡ maxSignals
-  pub tasks : length (a .tasks) ≡ maxTasks * 4
-  pub latched : length (a .latched) ≡ maxTasks * maxPorts
-  pub held : length (a .held) ≡ maxTasks * maxPorts
 
 -- what the code needs to add without wrapping
 pub record Ready (count records : ℕ) (clock : Clock) : Type 0 where

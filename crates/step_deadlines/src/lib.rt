@@ -93,12 +93,12 @@ fn lapse_row(
     let release = task_field(tasks, task, 2);
     let status = task_field(tasks, task, 0);
     if ends_now(t, release, deadline) {
-        if status == 2 {
+        if status == arrays::FINISHED {
             let at = write_row(rows, row, t, held, signals, trace, from);
-            reset_task(tasks, task, 0);
+            reset_task(tasks, task, arrays::READY);
             return at;
         }
-        if status == 1 {
+        if status == arrays::ACTIVE {
             trace::put(
                 trace,
                 from,
@@ -110,7 +110,7 @@ fn lapse_row(
                     value: 0,
                 },
             );
-            reset_task(tasks, task, 3);
+            reset_task(tasks, task, arrays::ERROR);
             return from + 5;
         }
     }

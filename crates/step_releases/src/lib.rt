@@ -175,7 +175,7 @@ fn start_row(
     let task = row_field(rows, row, 0);
     let execution = row_field(rows, row, 3);
     let at = task as usize * 4;
-    put(tasks, at, 1);
+    put(tasks, at, arrays::ACTIVE);
     put(tasks, at + 1, execution);
     put(tasks, at + 2, t);
     latch_row(rows, row, signals, latched);
@@ -185,7 +185,7 @@ fn start_row(
 fn is_closed(period: u32, status: u32, deadline: u32) -> bool
     ensures { λ r. ⌜ r ≡ closed period status deadline ⌝ }
 {
-    !(period == 0) & !(status == 0) & (!(status == 1) | !(deadline == 0))
+    !(period == 0) & !(status == arrays::READY) & (!(status == arrays::ACTIVE) | !(deadline == 0))
 }
 
 // The turn of one row. Whether a periodic task is due takes a division, so it is asked only where something can come of it.
@@ -217,7 +217,7 @@ fn grant_row(
     if asked == 0 {
         return from;
     }
-    if status == 0 {
+    if status == arrays::READY {
         start_row(rows, row, t, signals, tasks, latched);
         trace::put(
             trace,
@@ -246,7 +246,7 @@ fn grant_row(
             value: 0,
         },
     );
-    step_deadlines::reset_task(tasks, task, 3);
+    step_deadlines::reset_task(tasks, task, arrays::ERROR);
     from + 5
 }
 

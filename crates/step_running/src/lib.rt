@@ -48,7 +48,7 @@ fn finish_task(plan: &[u8], task: u32, tasks: &mut [u32], latched: &[u32], held:
         held,
     );
     let at = task as usize * 4;
-    put(tasks, at, 2);
+    put(tasks, at, arrays::FINISHED);
     put(tasks, at + 1, 0);
     put(tasks, at + 3, next);
 }
@@ -90,7 +90,7 @@ fn work_row(
         return from;
     }
     let at = write_row(rows, row, t, held, signals, trace, from);
-    reset_task(tasks, task, 0);
+    reset_task(tasks, task, arrays::READY);
     at
 }
 

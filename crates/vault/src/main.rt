@@ -8,9 +8,9 @@ use words::word;
 // One step beyond what the kernel accepts: a part that is longer keeps its own number, 1 or 9.
 const PLAN_BYTES: usize = limits::PLAN_BYTES + 4;
 
-const EVENT_BYTES: usize = limits::EVENT_BYTES + 16;
+const EVENT_BYTES: usize = limits::EVENT_BYTES + limits::EVENT_SIZE;
 
-const TRACE_WORDS: usize = 15_000;
+const TRACE_WORDS: usize = limits::TRACE_WORDS;
 
 fn smaller(a: usize, b: usize) -> usize
     ensures { λ r. ⌜ (r ≤ a) × (r ≤ b) ⌝ }

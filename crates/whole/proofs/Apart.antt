@@ -17,9 +17,9 @@ use Rattle.state.specs.declared.Status.{Status}
 use Rattle.state.specs.declared.Status.the-variants.{READY, ACTIVE, FINISHED, ERROR}
 use Rattle.state.specs.declared.TaskState.{TaskState}
 use Rattle.state.specs.declared.State.{State}
-use Rattle.arrays.specs.Arrays.{field}
+use Rattle.arrays.specs.Arrays.{field, Sized}
 use Rattle.steps.specs.Flat.{statusOf}
-use Rattle.whole.specs.Whole.{portsIn, taskIn, whole, Sized, numberOf, fourOf, offEach, apart}
+use Rattle.whole.specs.Whole.{portsIn, taskIn, whole, numberOf, fourOf, offEach, apart}
 use Rattle.whole.proofs.Laws.{getD-all}
 
 pub status-same : (s : Status) → statusOf (numberOf s) ≡ s

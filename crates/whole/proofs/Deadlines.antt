@@ -18,11 +18,11 @@ use Rattle.trace.specs.Trace.{missKind, entry}
 use Rattle.trace.specs.declared.Entry.{Entry}
 use Rattle.state.specs.declared.Status.the-variants.{READY}
 use Rattle.state.specs.declared.TaskState.{TaskState}
-use Rattle.arrays.specs.Arrays.{Arrays, Step, still, ready, active, finished, error, field, rowField}
+use Rattle.arrays.specs.Arrays.{Arrays, Step, still, ready, active, finished, error, field, rowField, Sized}
 use Rattle.tick.specs.Turns.{Write, becomes, writesOf, writeOut, fail, deadlineOf, deadlineTurn}
 use Rattle.tick.specs.Tick.{writeAll, visit, each}
 use Rattle.steps.specs.Flat.{eachRow, statusOf, taskOfRow, reset, rowWrites, writeEntries, writeRow, failRow, endsNow, lapse}
-use Rattle.whole.specs.Whole.{portsIn, taskIn, whole, momentOf, Sized, RowOf, Rows}
+use Rattle.whole.specs.Whole.{portsIn, taskIn, whole, momentOf, RowOf, Rows}
 use Rattle.whole.proofs.Laws.{getD-all, read, change, after, landed, keeps, IsRow, in-order, in-order-leave}
 use Rattle.whole.proofs.Fields.{three, three-stored, three-other, task-same}
 

@@ -15,11 +15,11 @@ use Rattle.trace.specs.Trace.{releaseKind, overrunKind, ignoredKind, entry}
 use Rattle.trace.specs.declared.Entry.{Entry}
 use Rattle.state.specs.declared.Status.{Status}
 use Rattle.state.specs.declared.TaskState.{TaskState}
-use Rattle.arrays.specs.Arrays.{Arrays, active, rowField}
+use Rattle.arrays.specs.Arrays.{Arrays, active, rowField, Sized}
 use Rattle.tick.specs.Turns.{requests, release, Call, released, overrun, ignored, periodicCall, eventCall, callOf, waits, answer, releaseTurn}
 use Rattle.tick.specs.Tick.{writeAll, visit, each}
 use Rattle.steps.specs.Flat.{eachRow, statusOf, taskOfRow, latch, isDue, callOfRow, answerRow, grant}
-use Rattle.whole.specs.Whole.{taskIn, whole, momentOf, Sized, RowOf, Rows}
+use Rattle.whole.specs.Whole.{taskIn, whole, momentOf, RowOf, Rows}
 use Rattle.whole.proofs.Laws.{read, change, after, landed, keeps, IsRow, in-order, in-order-leave}
 use Rattle.whole.proofs.Fields.{task-same}
 use Rattle.whole.proofs.Deadlines.{timed, timed-stored, timed-other, sized-fail, fails}

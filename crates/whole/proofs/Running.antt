@@ -27,11 +27,11 @@ use Rattle.body.proofs.Laws.{body-length}
 use Rattle.trace.specs.declared.Entry.{Entry}
 use Rattle.state.specs.State.{stateAt}
 use Rattle.state.specs.declared.TaskState.{TaskState}
-use Rattle.arrays.specs.Arrays.{Arrays, Step, still, active, finished, field, withField, rowField}
+use Rattle.arrays.specs.Arrays.{Arrays, Step, still, active, finished, field, withField, rowField, Sized}
 use Rattle.tick.specs.Turns.{quiet, finish, writeOut, isActive, loses, runTurn}
 use Rattle.tick.specs.Tick.{writeAll, running, visitIf, runs}
 use Rattle.steps.specs.Flat.{statusOf, taskOfRow, writeRow, portsOf, bodyLeft, finishTask, work, firstActive}
-use Rattle.whole.specs.Whole.{portsIn, taskIn, whole, momentOf, Sized, RowOf, Rows}
+use Rattle.whole.specs.Whole.{portsIn, taskIn, whole, momentOf, RowOf, Rows}
 use Rattle.whole.proofs.Laws.{read, change, after, landed}
 use Rattle.whole.proofs.Fields.{stored, stored-other, three-stored, three-other, task-same}
 use Rattle.whole.proofs.Deadlines.{sized-write, sized-cond, writes}

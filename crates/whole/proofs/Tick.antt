@@ -14,11 +14,11 @@ use Rattle.events.specs.Events.{Event}
 use Rattle.state.specs.Fitting as fitting
 use Rattle.state.specs.declared.TaskState.{TaskState}
 use Rattle.state.specs.declared.State.{State}
-use Rattle.arrays.specs.Arrays.{Arrays, Step}
+use Rattle.arrays.specs.Arrays.{Arrays, Step, Sized}
 use Rattle.tick.specs.Turns.{deadlineTurn, waits}
 use Rattle.tick.specs.Tick.{Moment, eventsAt, setNow, each, releases, runs, ends, tick}
 use Rattle.steps.specs.Flat.{eachRow, lapse, grant}
-use Rattle.whole.specs.Whole.{momentOf, Sized, apart, Rows}
+use Rattle.whole.specs.Whole.{momentOf, apart, Rows}
 use Rattle.whole.proofs.Laws.{landed}
 use Rattle.whole.proofs.Schedule.{rows-of}
 use Rattle.whole.proofs.Apart.{apart-sized, whole-apart}

@@ -3,7 +3,7 @@ use Prim.Native.Nat.{ℕ, _+_, _*_, _<_, _≤_}
 use mathlib.Core.Path.{_≡_}
 use mathlib.Core.List.{List, [], _∷_, _++_}
 use lib.ListN.{length, getD}
-use Rattle.limits.specs.Limits.{maxSignals, maxTasks, maxPorts}
+use Rattle.limits.specs.Limits.{maxTasks, maxPorts}
 use Rattle.lists.specs.Lists.{tab}
 use Rattle.plan.specs.File.{Task, Plan, taskAt}
 use Rattle.plan.specs.Order.{order}
@@ -38,13 +38,6 @@ whole a = tab (taskIn a) 0 maxTasks
 -- what the steps of a tick change, with the records so far
 abbrev pub momentOf : Arrays → List Entry → Moment
 momentOf a entries = record { signals = a .signals; tasks = whole a; entries = entries }
-
--- the arrays have their lengths
-pub record Sized (a : Arrays) : Type 0 where
-  pub signals : length (a .signals) ≡ maxSignals
-  pub tasks : length (a .tasks) ≡ maxTasks * 4
-  pub latched : length (a .latched) ≡ maxTasks * maxPorts
-  pub held : length (a .held) ≡ maxTasks * maxPorts
 
 -- ---- the arrays of a state
 -- the number that stands for a status
