@@ -5,7 +5,7 @@ use mathlib.Core.List.{List, [], _∷_, _++_, append-assoc, append-nil}
 use native.Mathlib.Omega.{arith}
 use native.Mathlib.Nat.{zero-mul, suc-mul, mul-le-mul-right}
 use native.Mathlib.Numerals.{add-one}
-use lib.ListN.{length, take, drop, replicate, length-append, length-replicate}
+use lib.ListN.{length, take, drop, length-append}
 use lib.Seq.{sets, length-sets, sets-eq, take-at, take-all, take-suc, length-take-le}
 use Rattle.limits.specs.Limits.{maxTasks}
 use Rattle.state.specs.State.{nowhere, stateAt}
@@ -36,9 +36,9 @@ pub record Stored (f : TaskState → List ℕ) (w : ℕ) (xs : List TaskState) (
 
 module _ (f : TaskState → List ℕ) (w : ℕ) (xs : List TaskState) where
   -- before the first task nothing need be stored
-  pub stored-none : Stored f w xs 0 (replicate (maxTasks * w) 0)
+  pub stored-none : (out : List ℕ) → length out ≡ maxTasks * w → Stored f w xs 0 out
   unfolding offEach
-  stored-none = record { size = length-replicate (maxTasks * w) 0; stored = rw (zero-mul w) }
+  stored-none out size = record { size = size; stored = rw (zero-mul w) }
 
   -- the w numbers of task i are stored after those of the tasks before it
   pub stored-more : (i : ℕ) (out vs : List ℕ) → length xs ≡ maxTasks → i < maxTasks → vs ≡ f (stateAt xs i) → length vs ≡ w

@@ -1,8 +1,10 @@
 // The public state taken apart into the arrays of numbers that the steps of a tick are lent, and put together again.
 ghost use mathlib.Core.Path.{_≡_};
-ghost use mathlib.Core.Bool.{cond};
 ghost use mathlib.Core.List.{[]};
+ghost use Prim.Native.Nat.{_*_, _<_};
+ghost use lib.ListN.{length};
 ghost use lib.Seq.{sets};
+ghost use Rattle.limits.specs.Limits.{maxTasks, maxPorts};
 ghost use Rattle.steps.specs.Flat.{statusOf};
 ghost use Rattle.whole.specs.Whole.{portsIn, taskIn, whole, numberOf, fourOf, offEach};
 use arrays::get;
@@ -21,9 +23,9 @@ const PORTS: usize = limits::PORTS as usize;
 // A task's status, remaining ticks, release instant and machine state.
 const NUMBERS: u32 = 4;
 
-const FIELDS: usize = TASKS * NUMBERS as usize;
+pub const FIELDS: usize = TASKS * NUMBERS as usize;
 
-const PORTS_OF_ALL: usize = TASKS * PORTS;
+pub const PORTS_OF_ALL: usize = TASKS * PORTS;
 
 fn status_of(number: u32) -> Status
     ensures { λ r. ⌜ r ≡ statusOf number ⌝ }
@@ -122,13 +124,6 @@ fn four_of(x: TaskState) -> [u32; NUMBERS as usize]
     [number_of(status), x.remaining, x.release, x.machine]
 }
 
-// The eight ports of a task: its held outputs, or its latched inputs.
-fn eight_of(x: TaskState, held: bool) -> [u32; PORTS]
-    ensures { λ r. ⌜ r ≡ cond held (x .held) (x .latched) ⌝ }
-{
-    if held { x.held } else { x.latched }
-}
-
 // Values one after the other, from a place on. Taking apart stores the numbers of a task by one call of this, so that a task
 // state is copied once and not for each of its numbers.
 fn put_all(out: &mut [u32], from: u32, values: &[u32])
@@ -141,46 +136,38 @@ fn put_all(out: &mut [u32], from: u32, values: &[u32])
     }
 }
 
-// The four numbers of each task.
-pub fn tasks_of(tasks: [TaskState; TASKS]) -> [u32; FIELDS]
-    ensures { λ r. ⌜ r ≡ offEach fourOf tasks ⌝ }
+// Stores the numbers and ports of task i.
+fn put_task(x: TaskState, i: u32, tasks: &mut [u32], latched: &mut [u32], held: &mut [u32])
+    requires { ⌜ i < maxTasks ⌝ }
+    ensures tasks { λ _. ⌜ now (tasks .exit) ≡ sets (now (tasks .entry)) (i * 4) (fourOf x) ⌝ }
+    ensures latched { λ _. ⌜ now (latched .exit) ≡ sets (now (latched .entry)) (i * maxPorts) (x .latched) ⌝ }
+    ensures held { λ _. ⌜ now (held .exit) ≡ sets (now (held .entry)) (i * maxPorts) (x .held) ⌝ }
+    ensures ports { λ _. ⌜ (length (x .latched) ≡ maxPorts) × (length (x .held) ≡ maxPorts) ⌝ }
 {
-    let mut out = [0u32; FIELDS];
+    let numbers = four_of(x);
+    let inputs = x.latched;
+    let outputs = x.held;
+    put_all(tasks, i * NUMBERS, &numbers);
+    put_all(latched, i * limits::PORTS, &inputs);
+    put_all(held, i * limits::PORTS, &outputs);
+}
+
+// Takes the tasks apart into the lent arrays, all in one pass: each pass of its own would copy the tasks once more.
+pub fn take_apart(
+    states: [TaskState; TASKS],
+    tasks: &mut [u32],
+    latched: &mut [u32],
+    held: &mut [u32],
+)
+    requires { ⌜ (length (now tasks) ≡ maxTasks * 4) × (length (now latched) ≡ maxTasks * maxPorts) × (length (now held) ≡ maxTasks * maxPorts) ⌝ }
+    ensures tasks { λ _. ⌜ now (tasks .exit) ≡ offEach fourOf states ⌝ }
+    ensures latched { λ _. ⌜ now (latched .exit) ≡ offEach (λ x. x .latched) states ⌝ }
+    ensures held { λ _. ⌜ now (held .exit) ≡ offEach (λ x. x .held) states ⌝ }
+{
     let mut i: u32 = 0;
     while i < limits::TASKS {
-        let x = tasks[i as usize];
-        let numbers = four_of(x);
-        put_all(&mut out, i * NUMBERS, &numbers);
+        let x = states[i as usize];
+        put_task(x, i, tasks, latched, held);
         i += 1;
     }
-    out
-}
-
-// The eight ports of each task.
-fn ports_of(tasks: [TaskState; TASKS], held: bool) -> [u32; PORTS_OF_ALL]
-    ensures { λ r. ⌜ r ≡ offEach (λ x. cond held (x .held) (x .latched)) tasks ⌝ }
-{
-    let mut out = [0u32; PORTS_OF_ALL];
-    let mut i: u32 = 0;
-    while i < limits::TASKS {
-        let x = tasks[i as usize];
-        let ports = eight_of(x, held);
-        put_all(&mut out, i * limits::PORTS, &ports);
-        i += 1;
-    }
-    out
-}
-
-// The latched inputs of each task.
-pub fn latched_of(tasks: [TaskState; TASKS]) -> [u32; PORTS_OF_ALL]
-    ensures { λ r. ⌜ r ≡ offEach (λ x. x .latched) tasks ⌝ }
-{
-    ports_of(tasks, false)
-}
-
-// The held outputs of each task.
-pub fn held_of(tasks: [TaskState; TASKS]) -> [u32; PORTS_OF_ALL]
-    ensures { λ r. ⌜ r ≡ offEach (λ x. x .held) tasks ⌝ }
-{
-    ports_of(tasks, true)
 }

@@ -1,11 +1,12 @@
 // Document 01, 'The body': what a task's body leaves of its machine state and held outputs.
 ghost use mathlib.Core.Path.{_≡_};
-ghost use Prim.Native.Nat.{_<_, _^_};
+ghost use Prim.Native.Nat.{_+_, _*_, _<_, _≤_, _^_};
 ghost use mathlib.Core.Bool.{cond};
+ghost use lib.ListN.{length};
 ghost use Rattle.words.specs.Words.{wordsOf};
 ghost use Rattle.plan.specs.File.{taskOf, transitionsAt, transitionAt, actionAt};
 ghost use Rattle.body.specs.Body.{sooner, look, fires, after, move, doAction, perform, runActions, runIf, leaves, supervise, control, body};
-ghost use Rattle.body.specs.Steps.{inHand};
+ghost use Rattle.body.specs.Steps.{inHand, Whole};
 use arrays::get;
 use arrays::put;
 
@@ -24,7 +25,7 @@ const ACTION_COUNT: usize = 10;
 
 const INPUTS_AT: usize = 11;
 
-// What a body leaves.
+// What a body leaves; the definitions speak of it.
 pub struct Result {
     pub machine: u32,
     pub held: [u32; PORTS],
@@ -39,18 +40,18 @@ fn transitions_at(part: &[u8]) -> usize
 }
 
 // Transitions are held by the word at which they start, and 0 stands for none: one number, where an enum would be copied
-// whole at each turn of the loop. No word number that counts of 32 bits can give comes near 2 ^ 40, and none below it can wrap.
+// whole at each turn of the loop. Its four words lie inside the part, those from word 0 on as well: they are read without a test.
 
 // The one with the smaller order; at equal orders the earlier.
 fn sooner_of(part: &[u8], at: usize, best: usize) -> usize
-    requires { ⌜ (0 < at) × (at < 2 ^ 40) × (best < 2 ^ 40) ⌝ }
+    requires { ⌜ (0 < at) × (at * 4 + 16 ≤ length (now part)) × (best * 4 + 16 ≤ length (now part)) ⌝ }
     ensures { λ r. ⌜ inHand (wordsOf (now (part .entry))) r ≡ sooner (transitionAt (wordsOf (now (part .entry))) at) (inHand (wordsOf (now (part .entry))) best) ⌝ }
-    ensures small { λ r. ⌜ r < 2 ^ 40 ⌝ }
+    ensures inside { λ r. ⌜ r * 4 + 16 ≤ length (now (part .entry)) ⌝ }
 {
     if best == 0 {
         return at;
     }
-    if words::word(part, at + 2) < words::word(part, best + 2) {
+    if words::known(part, at + 2) < words::known(part, best + 2) {
         at
     } else {
         best
@@ -59,14 +60,14 @@ fn sooner_of(part: &[u8], at: usize, best: usize) -> usize
 
 // One more transition: read no further than its 'from' where that is another state.
 fn look_at(part: &[u8], at: usize, latched: &[u32], machine: u32, best: usize) -> usize
-    requires { ⌜ (0 < at) × (at < 2 ^ 40) × (best < 2 ^ 40) ⌝ }
+    requires { ⌜ (0 < at) × (at * 4 + 16 ≤ length (now part)) × (best * 4 + 16 ≤ length (now part)) ⌝ }
     ensures { λ r. ⌜ inHand (wordsOf (now (part .entry))) r ≡ look (now (latched .entry)) machine (transitionAt (wordsOf (now (part .entry))) at) (inHand (wordsOf (now (part .entry))) best) ⌝ }
-    ensures small { λ r. ⌜ r < 2 ^ 40 ⌝ }
+    ensures inside { λ r. ⌜ r * 4 + 16 ≤ length (now (part .entry)) ⌝ }
 {
-    if words::word(part, at) != machine {
+    if words::known(part, at) != machine {
         return best;
     }
-    if get(latched, words::word(part, at + 1) as usize) == 0 {
+    if get(latched, words::known(part, at + 1) as usize) == 0 {
         return best;
     }
     sooner_of(part, at, best)
@@ -74,14 +75,15 @@ fn look_at(part: &[u8], at: usize, latched: &[u32], machine: u32, best: usize) -
 
 // The transition that is taken from a machine state.
 fn choose(part: &[u8], latched: &[u32], machine: u32) -> usize
+    requires { ⌜ Whole (now part) ⌝ }
     ensures { λ r. ⌜ inHand (wordsOf (now (part .entry))) r ≡ fires (now (latched .entry)) machine (taskOf (wordsOf (now (part .entry))) .transitions) ⌝ }
-    ensures small { λ r. ⌜ r < 2 ^ 40 ⌝ }
+    ensures inside { λ r. ⌜ r * 4 + 16 ≤ length (now (part .entry)) ⌝ }
 {
     let first = transitions_at(part);
-    let count = words::word(part, TRANSITION_COUNT);
+    let transitions = words::word(part, TRANSITION_COUNT);
     let mut best: usize = 0;
     let mut j: u32 = 0;
-    while j < count {
+    while j < transitions {
         best = look_at(part, first + j as usize * 4, latched, machine, best);
         j += 1;
     }
@@ -90,13 +92,13 @@ fn choose(part: &[u8], latched: &[u32], machine: u32) -> usize
 
 // The state after it.
 fn next_state(part: &[u8], machine: u32, taken: usize) -> u32
-    requires { ⌜ taken < 2 ^ 40 ⌝ }
+    requires { ⌜ taken * 4 + 16 ≤ length (now part) ⌝ }
     ensures { λ r. ⌜ r ≡ after machine (inHand (wordsOf (now (part .entry))) taken) ⌝ }
 {
     if taken == 0 {
         machine
     } else {
-        words::word(part, taken + 3)
+        words::known(part, taken + 3)
     }
 }
 
@@ -121,12 +123,12 @@ fn transfer(held: &mut [u32], a: usize, b: usize, m: u32)
 
 // The action that starts at a word.
 fn act(part: &[u8], at: usize, latched: &[u32], held: &mut [u32])
-    requires { ⌜ at < 2 ^ 40 ⌝ }
+    requires { ⌜ at * 4 + 20 ≤ length (now part) ⌝ }
     ensures { λ _. ⌜ now (held .exit) ≡ doAction (now (latched .entry)) (actionAt (wordsOf (now (part .entry))) at) (now (held .entry)) ⌝ }
 {
-    let kind = words::word(part, at + 1);
-    let a = words::word(part, at + 2) as usize;
-    let c = words::word(part, at + 4);
+    let kind = words::known(part, at + 1);
+    let a = words::known(part, at + 2) as usize;
+    let c = words::known(part, at + 4);
     let m = get(latched, c as usize);
     match kind {
         1 => put(held, a, c),
@@ -135,28 +137,29 @@ fn act(part: &[u8], at: usize, latched: &[u32], held: &mut [u32])
             let sum = std::num::wrapping_add_u32(get(held, a), m);
             put(held, a, sum)
         }
-        _ => transfer(held, a, words::word(part, at + 3) as usize, m),
+        _ => transfer(held, a, words::known(part, at + 3) as usize, m),
     }
 }
 
 // One more action: read no further than its state where that is another one.
 fn perform_at(part: &[u8], at: usize, latched: &[u32], state: u32, held: &mut [u32])
-    requires { ⌜ at < 2 ^ 40 ⌝ }
+    requires { ⌜ at * 4 + 20 ≤ length (now part) ⌝ }
     ensures { λ _. ⌜ now (held .exit) ≡ perform (now (latched .entry)) state (actionAt (wordsOf (now (part .entry))) at) (now (held .entry)) ⌝ }
 {
-    if words::word(part, at) == state {
+    if words::known(part, at) == state {
         act(part, at, latched, held);
     }
 }
 
 // The state's actions in file order.
 fn run_actions(part: &[u8], latched: &[u32], state: u32, held: &mut [u32])
+    requires { ⌜ Whole (now part) ⌝ }
     ensures { λ _. ⌜ now (held .exit) ≡ runActions (now (latched .entry)) state (taskOf (wordsOf (now (part .entry))) .actions) (now (held .entry)) ⌝ }
 {
     let first = transitions_at(part) + words::word(part, TRANSITION_COUNT) as usize * 4;
-    let count = words::word(part, ACTION_COUNT);
+    let actions = words::word(part, ACTION_COUNT);
     let mut j: u32 = 0;
-    while j < count {
+    while j < actions {
         perform_at(part, first + j as usize * 5, latched, state, held);
         j += 1;
     }
@@ -164,6 +167,7 @@ fn run_actions(part: &[u8], latched: &[u32], state: u32, held: &mut [u32])
 
 // They run only if updated.
 fn run_if(updated: bool, part: &[u8], latched: &[u32], state: u32, held: &mut [u32])
+    requires { ⌜ Whole (now part) ⌝ }
     ensures { λ _. ⌜ now (held .exit) ≡ runIf updated (now (latched .entry)) state (taskOf (wordsOf (now (part .entry))) .actions) (now (held .entry)) ⌝ }
 {
     if updated {
@@ -173,6 +177,7 @@ fn run_if(updated: bool, part: &[u8], latched: &[u32], state: u32, held: &mut [u
 
 // What a supervisor's body leaves of the lent outputs, and the machine state that it returns.
 fn supervisor(part: &[u8], latched: &[u32], machine: u32, held: &mut [u32]) -> u32
+    requires { ⌜ Whole (now part) ⌝ }
     ensures { λ r. ⌜ leaves r (now (held .exit)) ≡ supervise (taskOf (wordsOf (now (part .entry)))) (now (latched .entry)) machine (now (held .entry)) ⌝ }
 {
     let taken = choose(part, latched, machine);
@@ -186,6 +191,7 @@ fn supervisor(part: &[u8], latched: &[u32], machine: u32, held: &mut [u32]) -> u
 
 // The same of a controller, which keeps its machine state.
 fn controller(part: &[u8], latched: &[u32], machine: u32, held: &mut [u32]) -> u32
+    requires { ⌜ Whole (now part) ⌝ }
     ensures { λ r. ⌜ leaves r (now (held .exit)) ≡ control (taskOf (wordsOf (now (part .entry)))) (now (latched .entry)) machine (now (held .entry)) ⌝ }
 {
     let state = get(latched, 0);
@@ -194,25 +200,14 @@ fn controller(part: &[u8], latched: &[u32], machine: u32, held: &mut [u32]) -> u
     machine
 }
 
-// A task's body, on lent outputs: for any bytes and any values, so that nothing need be known of the plan where it is called.
+// A task's body, on lent outputs: for any values, and any bytes that hold all the transitions and actions they count.
 pub fn run_lent(part: &[u8], latched: &[u32], machine: u32, held: &mut [u32]) -> u32
+    requires { ⌜ Whole (now part) ⌝ }
     ensures { λ r. ⌜ leaves r (now (held .exit)) ≡ body (taskOf (wordsOf (now (part .entry)))) (now (latched .entry)) machine (now (held .entry)) ⌝ }
 {
     if words::word(part, KIND) == 1 {
         supervisor(part, latched, machine, held)
     } else {
         controller(part, latched, machine, held)
-    }
-}
-
-// The same on arrays of its own.
-pub fn run_body(part: &[u8], latched: [u32; PORTS], machine: u32, held: [u32; PORTS]) -> Result
-    ensures { λ r. ⌜ r ≡ body (taskOf (wordsOf (now (part .entry)))) latched machine held ⌝ }
-{
-    let mut h = held;
-    let next = run_lent(part, &latched, machine, &mut h);
-    Result {
-        machine: next,
-        held: h,
     }
 }

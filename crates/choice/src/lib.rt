@@ -1,24 +1,15 @@
 // Document 01, 'One tick', step 3: which task runs. "The choice of the running task reads the lent list of task records": the
-// records are made of the lent arrays, few of them or all, and walked by `urgent`.
+// records are made of the lent arrays, two at a time, and walked by `urgent`.
 ghost use mathlib.Core.Path.{_≡_};
-ghost use Prim.Native.Nat.{_≤_, min};
+ghost use Prim.Native.Nat.{_<_, _≤_};
 ghost use Rattle.limits.specs.Limits.{maxTasks};
-ghost use Rattle.urgent.specs.Urgent.{fewTasks};
+ghost use Rattle.lists.specs.Lists.{tab};
+ghost use Rattle.urgent.specs.Urgent.{pairSize, leastRank};
 ghost use Rattle.steps.specs.Flat.{firstActive};
 ghost use Rattle.choice.specs.Records.{recordOf};
 use arrays::row_field;
 use arrays::task_field;
 use urgent::TaskRecord;
-
-const TASKS: usize = limits::TASKS as usize;
-
-const FEW: usize = urgent::FEW as usize;
-
-fn smallest(a: u32, b: u32) -> u32
-    ensures { λ r. ⌜ r ≡ min a b ⌝ }
-{
-    if a <= b { a } else { b }
-}
 
 // The record of the task of a row: rows stand in order of priority, so the row is its rank.
 fn record_of(rows: &[u32], row: u32, tasks: &[u32]) -> TaskRecord
@@ -31,49 +22,29 @@ fn record_of(rows: &[u32], row: u32, tasks: &[u32]) -> TaskRecord
     }
 }
 
-// The least rank of the records of a few rows that are ACTIVE.
-fn least_of_few(rows: &[u32], count: u32, tasks: &[u32]) -> u32
-    requires { ⌜ count ≤ fewTasks ⌝ }
-    ensures { λ r. ⌜ min r count ≡ firstActive (now (rows .entry)) (now (tasks .entry)) count 0 ⌝ }
+// The least rank of the records of a row and the next one that are ACTIVE.
+fn least_of_pair(rows: &[u32], row: u32, tasks: &[u32]) -> u32
+    requires { ⌜ row < maxTasks ⌝ }
+    ensures { λ r. ⌜ r ≡ leastRank (tab (recordOf (now (rows .entry)) (now (tasks .entry))) row pairSize) ⌝ }
 {
-    let idle = TaskRecord {
-        status: arrays::READY,
-        rank: 0,
-    };
-    let mut records = [idle; FEW];
-    let mut j: u32 = 0;
-    while j < count {
-        records[j as usize] = record_of(rows, j, tasks);
-        j += 1;
-    }
-    urgent::urgent_of_few(records)
+    let first = record_of(rows, row, tasks);
+    let second = record_of(rows, row + 1, tasks);
+    urgent::urgent_of([first, second])
 }
 
-// The same of up to all rows.
-fn least_of_all(rows: &[u32], count: u32, tasks: &[u32]) -> u32
-    requires { ⌜ count ≤ maxTasks ⌝ }
-    ensures { λ r. ⌜ min r count ≡ firstActive (now (rows .entry)) (now (tasks .entry)) count 0 ⌝ }
-{
-    let idle = TaskRecord {
-        status: arrays::READY,
-        rank: 0,
-    };
-    let mut records = [idle; TASKS];
-    let mut j: u32 = 0;
-    while j < count {
-        records[j as usize] = record_of(rows, j, tasks);
-        j += 1;
-    }
-    urgent::urgent_of(records)
-}
-
-// The first of the rows whose task is ACTIVE, and the row past them where there is none.
+// The first of the rows whose task is ACTIVE, and the row past them where there is none. The last pair may reach past the rows;
+// what stands there comes after all of them and is not taken.
 pub fn running_row(rows: &[u32], count: u32, tasks: &[u32]) -> u32
     requires { ⌜ count ≤ maxTasks ⌝ }
     ensures { λ r. ⌜ r ≡ firstActive (now (rows .entry)) (now (tasks .entry)) count 0 ⌝ }
 {
-    if count <= urgent::FEW {
-        return smallest(least_of_few(rows, count, tasks), count);
+    let mut j: u32 = 0;
+    while j < count {
+        let row = least_of_pair(rows, j, tasks);
+        if row < count {
+            return row;
+        }
+        j += urgent::PAIR;
     }
-    smallest(least_of_all(rows, count, tasks), count)
+    count
 }

@@ -145,15 +145,19 @@ fn all_events(events: &[u8], count: u32, targets: EventTargets) -> Answer
     Answer::Accepted
 }
 
-// Rules 9, 10, 11, which come after those of the plan.
+// Rules 9, 10, 11, which come after those of the plan. Where there is no event, nothing is asked of the plan.
 fn list_answer(plan: &[u8], events: &[u8]) -> Answer
     ensures { λ r. ⌜ said r ≡ firstBroken (listBy (wordsOf (now (plan .entry))) (now (events .entry))) ⌝ }
 {
     if !size_holds(events) {
         return Answer::EventSize;
     }
+    let count = (events.len() / limits::EVENT_SIZE) as u32;
+    if count == 0 {
+        return Answer::Accepted;
+    }
     let targets = targets_of(plan);
-    all_events(events, (events.len() / limits::EVENT_SIZE) as u32, targets)
+    all_events(events, count, targets)
 }
 
 // The number and place of a plan with an event list: 0, or those of the first broken rule.

@@ -9,14 +9,17 @@ use lib.ListN.{length}
 use lib.Dec.{eqb, leb}
 use borrow.Author.Tests.{eqb-true, leb-true, eq-eqb}
 use Rattle.limits.specs.Limits.{maxTasks, maxTime}
+use Rattle.words.specs.Words.{wordsOf}
+use Rattle.words.proofs.Laws.{words-length, part-words}
 use Rattle.lists.proofs.Tests.{pairwise-once}
 use Rattle.answers.specs.Answers.{Verdict, verdict}
-use Rattle.plan.specs.File.{planOf}
+use Rattle.plan.specs.File.{taskCount, startOf, lengthOf, bodyOf, bodyPart, planOf}
 use Rattle.plan.specs.Order.{order}
 use Rattle.plan.specs.Rules.{planVerdict}
 use Rattle.plan.proofs.Acceptance as plans
+use Rattle.plan.proofs.Facts.{accepted, task-shape}
 use Rattle.plan_schedule.specs.Schedule.{scheduleOf}
-use Rattle.plan_schedule.proofs.Accepted.{tasks-few, accepted-distinct, accepted-length, schedule-count, schedule-says}
+use Rattle.plan_schedule.proofs.Accepted.{taskIn, tasks-few, accepted-distinct, accepted-length, place-task, schedule-count, schedule-says}
 use Rattle.events.specs.Events.{eventsOf, passed, eventCount, eventsVerdict}
 use Rattle.events.proofs.Acceptance as lists
 use Rattle.state.specs.Fits.{fits}
@@ -26,6 +29,7 @@ use Rattle.state.proofs.Laws.{events-parted}
 use Rattle.state.proofs.Fitting.{fits-exactly}
 use Rattle.tick.specs.Tick.{tick}
 use Rattle.arrays.specs.Arrays.{Sized}
+use Rattle.steps.specs.Flat.{WholeBodies}
 use Rattle.step.specs.declared.Clock.{Clock}
 use Rattle.quiet.specs.Quiet.{Distinct}
 use Rattle.run.specs.Run.{Asked, runFlat}
@@ -89,6 +93,18 @@ module _ (planBytes eventBytes : List ℕ) (s : State) (asked : ℕ) (good : cal
       let second = schedule-says planBytes plan-good k (omega arith) .task in
       pairwise-once _≢_ 0 (order (planOf planBytes)) (accepted-distinct planBytes plan-good) j k (omega arith) (omega arith)
       (λ other. other (sym first ∙ e ∙ second)) (λ other. other (sym second ∙ sym e ∙ first))
+
+  -- the body part of each row's task has the length that its counts say
+  pub bodies-whole : WholeBodies planBytes (scheduleOf planBytes .rows) (scheduleOf planBytes .count)
+  bodies-whole j h =
+      let ws = wordsOf planBytes in
+      let i = taskIn planBytes j in
+      let count = schedule-count planBytes plan-good in
+      let below : j < taskCount ws = omega arith in
+      let words : wordsOf (bodyPart planBytes i) ≡ bodyOf ws (i + 1) = part-words planBytes (startOf ws (i + 1)) (lengthOf ws (i + 1)) in
+      let size = rw words at (words-length (bodyPart planBytes i)) in
+      let formula = task-shape planBytes (accepted planBytes plan-good) i (place-task planBytes plan-good j below) .formula in
+      rw (schedule-says planBytes plan-good j below .task, words) (omega arith)
 
   -- and what it comes to is the call
   pub call-is : (room : ℕ) → call planBytes eventBytes s asked room ≡ ranOf (s .tick) (runFlat (known planBytes eventBytes plan-good events-good) room asked (s .tick) (s .place) (apart s))

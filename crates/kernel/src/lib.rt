@@ -83,9 +83,10 @@ fn run_accepted(plan: &[u8], events: &[u8], state: State, asked: u32, trace: &mu
     let count = schedule.count;
     let states = state.tasks;
     let mut signals = state.signals;
-    let mut tasks = apart::tasks_of(states);
-    let mut latched = apart::latched_of(states);
-    let mut held = apart::held_of(states);
+    let mut tasks = [0u32; apart::FIELDS];
+    let mut latched = [0u32; apart::PORTS_OF_ALL];
+    let mut held = [0u32; apart::PORTS_OF_ALL];
+    apart::take_apart(states, &mut tasks, &mut latched, &mut held);
     let clock = Clock {
         tick: state.tick,
         place: state.place,

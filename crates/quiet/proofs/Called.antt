@@ -4,21 +4,19 @@ use Prim.Native.Nat.{ℕ, zero, suc, _+_, _-_, _*_, _<_, _≤_}
 use mathlib.Core.Path.{_≡_, refl, sym, ap, _∙_, subst}
 use mathlib.Core.Bool.{Bool, true, false, cond, _||_, or-true, true≢false}
 use mathlib.Core.List.{List}
-use native.Mathlib.Nat.{sub-self}
 use native.Mathlib.Omega.{arith}
 use lib.Seq.{getD-set-same, getD-set-other}
 use lib.Dec.{ltb, eqb}
-use borrow.Author.Tests.{ltb-true, eqb-true, eqb-false, ne-eqb}
+use borrow.Author.Tests.{ltb-true, eqb-true, eqb-false}
 use Rattle.marks.specs.Marks.{has}
-use Rattle.lists.specs.Lists.{tab}
 use Rattle.trace.specs.Trace.{missKind}
 use Rattle.events.specs.Events.{Event}
 use Rattle.arrays.specs.Arrays.{Arrays, Step, still, ready, active, finished, field, withField, rowField}
-use Rattle.tick.specs.Turns.{Call, released, overrun, ignored, periodicCall}
+use Rattle.tick.specs.Turns.{requests, Call, released, overrun, ignored, periodicCall}
 use Rattle.steps.specs.Flat.{eachRow, called, taskOfRow, statusOf, writeRow, failRow, lapse, endsNow, isDue, callOfRow, answerRow, grant, finishTask, work, firstActive, runsFlat, between}
 use Rattle.step.specs.Step.{Given, placeAfter, withEvents, stepFlat, stepCalled}
 use Rattle.state.specs.declared.Status.the-variants.{ACTIVE}
-use Rattle.quiet.specs.Quiet.{RowQuiet, Wakes, OthersWake, AllIn, OthersLater, Distinct, OthersRest}
+use Rattle.quiet.specs.Quiet.{RowQuiet, Wakes, OthersWake, OthersLater, Distinct, OthersRest}
 use Rattle.quiet.proofs.Rows.{asked-quiet, driven-quiet, due-quiet, quiet-lapse}
 use Rattle.quiet.proofs.Ticks.{in-range}
 
@@ -250,14 +248,8 @@ module _ (calls : ℕ) (g : Given) (t place : ℕ) (a : Arrays) (distinct : Dist
 
   -- what the rows without a turn do at their turn in step 1
   sleeps : (j : ℕ) → j < g .count → has calls j ≡ false → Sleeps (g .rows) t now j (a .tasks)
-  unfolding tab
-  sleeps j h b = record { quiet = others j h b .quiet; call = go (eqb (placeAfter g t place) place) refl }
-    where
-      go : (c : Bool) → eqb (placeAfter g t place) place ≡ c → callOfRow t (g .rows) now j (a .tasks) ≡ ignored 0
-      go true e = rw (eqb-true (placeAfter g t place) place e, sub-self place) (others j h b .quiet .call)
-      go false e =
-          let periodic = ne-eqb (rowField (g .rows) j 1) 0 (others j h b .periodic (eqb-false (placeAfter g t place) place e)) in
-          rw periodic (rw periodic at (others j h b .quiet .call))
+  unfolding requests
+  sleeps j h b = record { quiet = others j h b .quiet; call = rw (others j h b .unasked) (others j h b .quiet .call) }
 
   lapsed-same : (j : ℕ) → j < g .count → has calls j ≡ false → Same (g .rows) j (a .tasks) (lapsed .arrays .tasks)
   lapsed-same j h b =
@@ -296,12 +288,7 @@ module _ (calls : ℕ) (g : Given) (t place : ℕ) (a : Arrays) (distinct : Dist
   pub others-wake : (wakes : List ℕ) → Wakes (g .rows) (a .tasks) (g .count) t wakes → OthersWake calls (g .rows) (stepFlat g t place a .arrays .tasks) (g .count) (t + 1) wakes
   others-wake wakes w = λ j h b t′ l m. called-keeps j t′ h b (w j h t′ (omega (arith, l)) m)
 
--- ---- which rows may go without their turn, by their instants
-pub others-rest : (calls : ℕ) (g : Given) (t place : ℕ) (tasks wakes : List ℕ) (driven : ℕ) (come : Bool) → Wakes (g .rows) tasks (g .count) t wakes
-    → AllIn (λ j. eqb (rowField (g .rows) j 1) 0) (g .count) driven → ((placeAfter g t place ≡ place → ⊥) → come ≡ true)
-    → OthersLater calls (g .count) t wakes driven come → OthersRest calls g t place tasks
-others-rest calls g t place tasks wakes driven come w all comes later =
-    λ j h b. record {
-      quiet = w j h t (omega arith) (later j h b .0);
-      periodic = λ p. eqb-false (rowField (g .rows) j 1) 0 (all j h (later j h b .1 (comes p)));
-    }
+-- ---- which rows may go without their turn, by their instants and by the events
+pub others-rest : (calls : ℕ) (g : Given) (t place : ℕ) (tasks wakes : List ℕ) → Wakes (g .rows) tasks (g .count) t wakes
+    → OthersLater calls (g .rows) (g .count) (between (g .events) place (placeAfter g t place)) t wakes → OthersRest calls g t place tasks
+others-rest calls g t place tasks wakes w later = λ j h b. record { quiet = w j h t (omega arith) (later j h b .0); unasked = later j h b .1 }

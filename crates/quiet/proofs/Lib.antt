@@ -3,4 +3,5 @@ pub mod Rows
 pub mod Found
 pub mod Ticks
 pub mod Wakes
+pub mod Asked
 pub mod Called

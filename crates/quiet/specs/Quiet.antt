@@ -1,15 +1,15 @@
 -- Ticks in which nothing can happen but that the running task loses a tick.
 use Prim.Native.Nat.{ℕ, zero, suc, _+_, _-_, _<_, _≤_}
 use mathlib.Core.Path.{_≡_}
-use mathlib.Core.Bool.{Bool, true, false, cond, _&&_, _||_}
+use mathlib.Core.Bool.{Bool, false, cond, _&&_, _||_}
 use mathlib.Core.List.{List, []}
 use lib.ListN.{getD}
 use lib.Dec.{ltb, eqb}
-use Rattle.marks.specs.Marks.{has}
-use Rattle.events.specs.Events.{eventOf}
+use Rattle.marks.specs.Marks.{has, seen, mark}
+use Rattle.events.specs.Events.{Event}
 use Rattle.arrays.specs.Arrays.{active, finished, field, withField, rowField}
-use Rattle.tick.specs.Turns.{ignored}
-use Rattle.steps.specs.Flat.{taskOfRow, endsNow, endFrom, isDue, callOfRow, firstActive}
+use Rattle.tick.specs.Turns.{requests, ignored}
+use Rattle.steps.specs.Flat.{taskOfRow, endsNow, endFrom, between, isDue, callOfRow, firstActive}
 use Rattle.step.specs.Step.{Given, placeAfter}
 
 -- "each task in flight": the numbers of its statuses
@@ -37,19 +37,31 @@ OthersWake calls rows tasks n t wakes = (j : ℕ) → j < n → has calls j ≡ 
 abbrev pub AllIn : (ℕ → Bool) → ℕ → ℕ → Type 0
 AllIn test n w = (j : ℕ) → j < n → has w j ≡ false → test j ≡ false
 
--- of n rows those whose bit does not stand in a word have their instant after tick t, and where events come are not among the
--- event-driven ones
-abbrev pub OthersLater : ℕ → ℕ → ℕ → List ℕ → ℕ → Bool → Type 0
-OthersLater calls n t wakes driven come = (j : ℕ) → j < n → has calls j ≡ false → (t < getD wakes j 0) × (come ≡ true → has driven j ≡ false)
+-- the marks with the task that an event asks to start
+abbrev pub withAsked : Event → ℕ → ℕ
+withAsked e tasks = cond (eqb (e .kind) 1) (mark tasks (e .target)) tasks
+
+-- no event of a list asks a task to start that is not marked
+abbrev pub OthersUnasked : ℕ → List Event → Type 0
+OthersUnasked tasks now = (i : ℕ) → seen tasks i ≡ false → requests i now ≡ 0
+
+-- no event of a list asks the task of row j to start
+abbrev pub Unasked : List ℕ → ℕ → List Event → Type 0
+Unasked rows j now = requests (taskOfRow rows j) now ≡ 0
+
+-- of n rows those whose bit does not stand in a word have their instant after tick t, and no event of a list asks their task to
+-- start
+abbrev pub OthersLater : ℕ → List ℕ → ℕ → List Event → ℕ → List ℕ → Type 0
+OthersLater calls rows n now t wakes = (j : ℕ) → j < n → has calls j ≡ false → (t < getD wakes j 0) × Unasked rows j now
 
 -- no two of n rows are of the same task
 abbrev pub Distinct : List ℕ → ℕ → Type 0
 Distinct rows n = (j k : ℕ) → j < n → k < n → taskOfRow rows j ≡ taskOfRow rows k → j ≡ k
 
--- a row may go without its turn at a tick whose events start at a place: it does nothing, and where events come it is periodic
+-- a row may go without its turn at a tick whose events start at a place: it does nothing, and none of them asks its task to start
 pub record MayRest (g : Given) (t place : ℕ) (tasks : List ℕ) (j : ℕ) : Type 0 where
   pub quiet : RowQuiet (g .rows) tasks j t
-  pub periodic : (placeAfter g t place ≡ place → ⊥) → rowField (g .rows) j 1 ≡ 0 → ⊥
+  pub unasked : Unasked (g .rows) j (between (g .events) place (placeAfter g t place))
 
 -- so may every row whose bit does not stand in a word
 abbrev pub OthersRest : ℕ → Given → ℕ → ℕ → List ℕ → Type 0

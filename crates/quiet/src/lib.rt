@@ -1,17 +1,17 @@
-// When rows have something to do. In a tick only rows whose instant has come need their turn, and ticks in which nothing can
-// happen but that the running task loses a tick are passed over in one move: no event, no deadline and no release falls in them,
-// and the running task is not done in them.
+// When rows have something to do. In a tick only rows whose instant has come and rows that a release event asks for need their
+// turn, and ticks in which nothing can happen but that the running task loses a tick are passed over in one move: no event, no
+// deadline and no release falls in them, and the running task is not done in them.
 ghost use mathlib.Core.Path.{_≡_};
-ghost use mathlib.Core.Bool.{cond};
+ghost use mathlib.Core.Bool.{false, cond};
 ghost use lib.ListN.{getD};
-ghost use lib.Dec.{leb, eqb};
+ghost use lib.Dec.{leb};
 ghost use Prim.Native.Nat.{ℕ, _+_, _-_, _*_, _<_, _≤_, _^_, min};
 ghost use Rattle.limits.specs.Limits.{maxTasks};
+ghost use Rattle.marks.specs.Marks.{has, seen};
 ghost use Rattle.words.specs.Words.{wordsOf};
-ghost use Rattle.events.specs.Events.{eventCount};
-ghost use Rattle.arrays.specs.Arrays.{rowField};
-ghost use Rattle.steps.specs.Flat.{endFrom, firstActive};
-ghost use Rattle.quiet.specs.Quiet.{RowQuiet, NotDue, Wakes, OthersWake, OthersLater, AllIn, Passed};
+ghost use Rattle.events.specs.Events.{eventOf, eventCount};
+ghost use Rattle.steps.specs.Flat.{taskOfRow, endFrom, between, firstActive};
+ghost use Rattle.quiet.specs.Quiet.{RowQuiet, NotDue, Wakes, OthersWake, AllIn, withAsked, OthersUnasked, Unasked, OthersLater, Passed};
 use arrays::row_field;
 use arrays::task_field;
 use words::word;
@@ -163,28 +163,72 @@ fn awake(count: u32, wakes: &[u32; TASKS], t: u32) -> u32
     }
 }
 
-// The event-driven rows, as bits.
-pub fn driven(rows: &[u32], count: u32) -> u32
+// The marks with the task that one event asks to start.
+fn with_asked(events: &[u8], p: u32, tasks: u64) -> u64
+    ensures { λ r. ⌜ r ≡ withAsked (eventOf (wordsOf (now (events .entry))) p) tasks ⌝ }
+{
+    let at = p as usize * 4;
+    if word(events, at + 1) == 1 {
+        return marks::with_mark(tasks, word(events, at + 2));
+    }
+    tasks
+}
+
+// The tasks that the events from a place to another ask to start, as marks.
+fn asked_tasks(events: &[u8], first: u32, last: u32) -> u64
+    ensures { λ r. ⌜ OthersUnasked r (between (wordsOf (now (events .entry))) first last) ⌝ }
+{
+    let mut tasks: u64 = 0;
+    let mut p = first;
+    while p < last {
+        tasks = with_asked(events, p, tasks);
+        p += 1;
+    }
+    tasks
+}
+
+// The rows of marked tasks, as bits.
+fn rows_of(rows: &[u32], count: u32, tasks: u64) -> u32
     requires { ⌜ count ≤ maxTasks ⌝ }
-    ensures { λ r. ⌜ AllIn (λ j. eqb (rowField (now (rows .entry)) j 1) 0) count r ⌝ }
+    ensures { λ r. ⌜ AllIn (λ j. seen tasks (taskOfRow (now (rows .entry)) j)) count r ⌝ }
 {
     let mut all: u32 = 0;
     let mut j: u32 = 0;
     while j < count {
-        let bit = bits_if(row_field(rows, j, 1) == 0, 1u32 << j);
+        let bit = bits_if(marks::is_marked(tasks, row_field(rows, j, 0)), 1u32 << j);
         all = all | bit;
         j += 1;
     }
     all
 }
 
-// The rows that have their turn at tick t, as bits: those whose instant has come, and where events come the event-driven ones.
-// Bits beyond the rows do no harm.
-pub fn calls(count: u32, wakes: &[u32; TASKS], t: u32, driven: u32, come: bool) -> u32
+// The rows whose task the events from a place to another ask to start, as bits. Where they ask none, no row is looked at.
+fn asked_rows(rows: &[u32], count: u32, events: &[u8], first: u32, last: u32) -> u32
     requires { ⌜ count ≤ maxTasks ⌝ }
-    ensures { λ r. ⌜ OthersLater r count t (now (wakes .entry)) driven come ⌝ }
+    ensures { λ r. ⌜ ((j : ℕ) → j < count → has r j ≡ false → Unasked (now (rows .entry)) j (between (wordsOf (now (events .entry))) first last)) ⌝ }
 {
-    awake(count, wakes, t) | bits_if(come, driven)
+    let tasks = asked_tasks(events, first, last);
+    if tasks == 0 {
+        return 0;
+    }
+    rows_of(rows, count, tasks)
+}
+
+// The rows that have their turn at tick t, whose events stand from a place to another, as bits: those whose instant has come, and
+// those that a release event asks for. Bits beyond the rows do no harm.
+pub fn calls(
+    rows: &[u32],
+    count: u32,
+    events: &[u8],
+    first: u32,
+    last: u32,
+    wakes: &[u32; TASKS],
+    t: u32,
+) -> u32
+    requires { ⌜ count ≤ maxTasks ⌝ }
+    ensures { λ r. ⌜ OthersLater r (now (rows .entry)) count (between (wordsOf (now (events .entry))) first last) t (now (wakes .entry)) ⌝ }
+{
+    awake(count, wakes, t) | asked_rows(rows, count, events, first, last)
 }
 
 // The least instant, in the same two ways.

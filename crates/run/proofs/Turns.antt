@@ -1,14 +1,13 @@
 -- What each kind of turn of a run comes to.
 use Prim.Native.Nat.{ℕ, zero, suc, _+_, _-_, _*_, _<_, _≤_, _^_}
 use mathlib.Core.Path.{_≡_, refl, sym, ap, _∙_}
-use mathlib.Core.Bool.{true, false, not}
+use mathlib.Core.Bool.{true, false}
 use mathlib.Core.List.{List}
 use native.Mathlib.Nat.{sub-zero, add-zero}
 use native.Mathlib.Omega.{arith}
 use lib.ListN.{length}
-use lib.Dec.{eqb}
-use borrow.Author.Tests.{ne-eqb}
 use Rattle.arrays.specs.Arrays.{Arrays}
+use Rattle.steps.specs.Flat.{between}
 use Rattle.step.specs.Step.{Given, placeAfter, stepFlat, stepCalled, Stepped}
 use Rattle.step.specs.declared.Clock.{Clock}
 use Rattle.step.proofs.Laws.{place-most}
@@ -21,12 +20,10 @@ use Rattle.run.proofs.Laws.{went-more, went-full, sofar-more}
 use Rattle.run.proofs.Calm.{once, later, calm-run}
 
 -- ---- a tick in which rows have no turn
-module _ (g : Given) (t place : ℕ) (a : Arrays) (calls driven last : ℕ) (wakes : List ℕ) (w : Watched (g .rows) (g .count) driven (a .tasks) t wakes)
-    (ends : last ≡ placeAfter g t place) (later : OthersLater calls (g .count) t wakes driven (not (eqb last place))) where
+module _ (g : Given) (t place : ℕ) (a : Arrays) (calls last : ℕ) (wakes : List ℕ) (w : Watched (g .rows) (g .count) (a .tasks) t wakes)
+    (ends : last ≡ placeAfter g t place) (later : OthersLater calls (g .rows) (g .count) (between (g .events) place last) t wakes) where
   rests : OthersRest calls g t place (a .tasks)
-  rests =
-      others-rest calls g t place (a .tasks) wakes driven (not (eqb last place)) (w .instants) (w .event-driven)
-      (λ come. rw (ends, ne-eqb (placeAfter g t place) place come)) later
+  rests = others-rest calls g t place (a .tasks) wakes (w .instants) (rw ends at later)
 
   -- it comes to the same
   pub turns-all : stepCalled calls g t place a ≡ stepFlat g t place a

@@ -4,14 +4,14 @@ use mathlib.Core.Path.{_≡_}
 use mathlib.Core.Bool.{Bool, true, false, cond}
 use mathlib.Core.List.{List, [], _++_}
 use lib.ListN.{length}
-use lib.Dec.{leb, eqb}
+use lib.Dec.{leb}
 use Rattle.limits.specs.Limits.{maxTasks, maxTime}
 use Rattle.trace.specs.Trace.{over}
 use Rattle.trace.specs.declared.Entry.{Entry}
-use Rattle.arrays.specs.Arrays.{Arrays, Step, rowField}
+use Rattle.arrays.specs.Arrays.{Arrays, Step}
 use Rattle.step.specs.Step.{Given, placeAfter, stepFlat}
 use Rattle.step.specs.declared.Clock.{Clock}
-use Rattle.quiet.specs.Quiet.{Distinct, AllIn, Wakes}
+use Rattle.quiet.specs.Quiet.{Distinct, Wakes}
 use Rattle.run.specs.declared.Ran.{Ran}
 
 -- what a run over the arrays comes to
@@ -72,11 +72,9 @@ pub record Ends (clock : Clock) (r : Ran) (after : Arrays) (old-trace new-trace 
   pub word : r .clock .at ≡ 5 * length (w .entries)
   pub room : 5 * length (w .entries) ≤ length old-trace
 
--- what a run knows of its rows, to leave out turns: they are of different tasks, the event-driven ones are known, and each has an
--- instant
-pub record Watched (rows : List ℕ) (count driven : ℕ) (tasks : List ℕ) (t : ℕ) (wakes : List ℕ) : Type 0 where
+-- what a run knows of its rows, to leave out turns: they are of different tasks, and each has an instant
+pub record Watched (rows : List ℕ) (count : ℕ) (tasks : List ℕ) (t : ℕ) (wakes : List ℕ) : Type 0 where
   pub distinct : Distinct rows count
-  pub event-driven : AllIn (λ j. eqb (rowField rows j 1) 0) count driven
   pub instants : Wakes rows tasks count t wakes
 
 -- what a run may be asked: from the trace's start, no further than the last tick

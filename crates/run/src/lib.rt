@@ -8,6 +8,7 @@ ghost use lib.ListN.{length};
 ghost use Rattle.limits.specs.Limits.{maxTasks};
 ghost use Rattle.events.specs.Events.{eventCount};
 ghost use Rattle.arrays.specs.Arrays.{Sized};
+ghost use Rattle.steps.specs.Flat.{WholeBodies};
 ghost use Rattle.step.specs.Step.{given, Ready};
 ghost use Rattle.room.specs.Room.{rowsMost};
 ghost use Rattle.quiet.specs.Quiet.{Distinct, Wakes};
@@ -23,8 +24,8 @@ pub struct Ran {
     pub full: bool,
 }
 
-// A tick is run if all its records fit. Only rows whose instant has come have their turn, and where events come those that are
-// event-driven; their instants are then found anew.
+// A tick is run if all its records fit. Only rows whose instant has come and rows that a release event asks for have their turn;
+// their instants are then found anew.
 fn tick_once(
     plan: &[u8],
     rows: &[u32],
@@ -32,7 +33,6 @@ fn tick_once(
     events: &[u8],
     clock: Clock,
     most: usize,
-    driven: u32,
     wakes: &mut [u32; TASKS],
     signals: &mut [u32],
     tasks: &mut [u32],
@@ -44,12 +44,13 @@ fn tick_once(
     requires { ⌜ Sized (record { signals = now signals; tasks = now tasks; latched = now latched; held = now held }) ⌝ }
     requires { ⌜ (most ≡ 2 * rowsMost (now rows) count 0) × (most ≤ 2 ^ 38) ⌝ }
     requires { ⌜ clock .at ≤ length (now trace) ⌝ }
-    requires { ⌜ Watched (now rows) count driven (now tasks) (clock .tick) (now wakes) ⌝ }
+    requires { ⌜ Watched (now rows) count (now tasks) (clock .tick) (now wakes) ⌝ }
+    requires { ⌜ WholeBodies (now plan) (now rows) count ⌝ }
     ensures { λ r. ⌜ ((left : ℕ) → Turned (given (now (plan .entry)) (now (rows .entry)) count (now (events .entry))) (suc left) clock
         (record { signals = now (signals .entry); tasks = now (tasks .entry); latched = now (latched .entry); held = now (held .entry) }) (now (trace .entry)) r
         (record { signals = now (signals .exit); tasks = now (tasks .exit); latched = now (latched .exit); held = now (held .exit) }) (now (trace .exit))) ⌝ }
     ensures moves { λ r. ⌜ r .ticks ≡ cond (r .full) 0 1 ⌝ }
-    ensures watched { λ r. ⌜ Watched (now (rows .entry)) count driven (now (tasks .exit)) (r .clock .tick) (now (wakes .exit)) ⌝ }
+    ensures watched { λ r. ⌜ Watched (now (rows .entry)) count (now (tasks .exit)) (r .clock .tick) (now (wakes .exit)) ⌝ }
 {
     let last = step_releases::end_of(
         events,
@@ -65,7 +66,7 @@ fn tick_once(
             full: true,
         };
     }
-    let calls = quiet::calls(count, wakes, clock.tick, driven, last != clock.place);
+    let calls = quiet::calls(rows, count, events, clock.place, last, wakes, clock.tick);
     let next = step::step(
         plan,
         rows,
@@ -136,7 +137,6 @@ fn turn(
     clock: Clock,
     left: u32,
     most: usize,
-    driven: u32,
     wakes: &mut [u32; TASKS],
     signals: &mut [u32],
     tasks: &mut [u32],
@@ -148,12 +148,13 @@ fn turn(
     requires { ⌜ Sized (record { signals = now signals; tasks = now tasks; latched = now latched; held = now held }) ⌝ }
     requires { ⌜ (most ≡ 2 * rowsMost (now rows) count 0) × (most ≤ 2 ^ 38) ⌝ }
     requires { ⌜ (clock .at ≤ length (now trace)) × (0 < left) × (clock .tick + left < 2 ^ 31) ⌝ }
-    requires { ⌜ Watched (now rows) count driven (now tasks) (clock .tick) (now wakes) ⌝ }
+    requires { ⌜ Watched (now rows) count (now tasks) (clock .tick) (now wakes) ⌝ }
+    requires { ⌜ WholeBodies (now plan) (now rows) count ⌝ }
     ensures { λ r. ⌜ Turned (given (now (plan .entry)) (now (rows .entry)) count (now (events .entry))) left clock
         (record { signals = now (signals .entry); tasks = now (tasks .entry); latched = now (latched .entry); held = now (held .entry) }) (now (trace .entry)) r
         (record { signals = now (signals .exit); tasks = now (tasks .exit); latched = now (latched .exit); held = now (held .exit) }) (now (trace .exit)) ⌝ }
     ensures moves { λ r. ⌜ (look ≡ false → r .full ≡ false → 0 < r .ticks) ⌝ }
-    ensures watched { λ r. ⌜ Watched (now (rows .entry)) count driven (now (tasks .exit)) (r .clock .tick) (now (wakes .exit)) ⌝ }
+    ensures watched { λ r. ⌜ Watched (now (rows .entry)) count (now (tasks .exit)) (r .clock .tick) (now (wakes .exit)) ⌝ }
 {
     if look {
         return rest(rows, count, events, clock, left, wakes, tasks);
@@ -165,7 +166,6 @@ fn turn(
         events,
         clock,
         most,
-        driven,
         wakes,
         signals,
         tasks,
@@ -193,12 +193,12 @@ pub fn run_ticks(
     requires { ⌜ Asked count (eventCount (now events)) asked clock ⌝ }
     requires { ⌜ Sized (record { signals = now signals; tasks = now tasks; latched = now latched; held = now held }) ⌝ }
     requires { ⌜ Distinct (now rows) count ⌝ }
+    requires { ⌜ WholeBodies (now plan) (now rows) count ⌝ }
     ensures { λ r. ⌜ Ends clock r (record { signals = now (signals .exit); tasks = now (tasks .exit); latched = now (latched .exit); held = now (held .exit) }) (now (trace .entry)) (now (trace .exit))
         (runFlat (given (now (plan .entry)) (now (rows .entry)) count (now (events .entry))) (length (now (trace .entry))) asked (clock .tick) (clock .place)
         (record { signals = now (signals .entry); tasks = now (tasks .entry); latched = now (latched .entry); held = now (held .entry) })) ⌝ }
 {
     let most = room::most_entries(rows, count);
-    let driven = quiet::driven(rows, count);
     let mut wakes = quiet::no_wakes(count);
     let mut now = clock;
     let mut done: u32 = 0;
@@ -213,7 +213,6 @@ pub fn run_ticks(
             now,
             asked - done,
             most,
-            driven,
             &mut wakes,
             signals,
             tasks,

@@ -1,15 +1,20 @@
 // Document 01, 'Task states': whether a state fits a plan and its events (number 12).
 ghost use mathlib.Core.Path.{_≡_};
-ghost use Prim.Native.Nat.{_-_};
+ghost use Prim.Native.Nat.{_-_, _≤_, min};
+ghost use Rattle.limits.specs.Limits.{maxTasks};
+ghost use Rattle.lists.specs.Lists.{tab, all};
 ghost use Rattle.words.specs.Words.{wordsOf};
-ghost use Rattle.plan.specs.File.{taskOf, planOf};
+ghost use Rattle.plan.specs.File.{taskCount, taskOf, planOf};
 ghost use Rattle.events.specs.Events.{eventsOf, eventsVerdict};
+ghost use Rattle.state.specs.State.{stateAt};
 ghost use Rattle.state.specs.Fits.{periodRule, inFlightRule, statusRule, zerosFrom, machineRule, taskFits, isReady, isIdle, taskRule, fits};
 ghost use Rattle.state.specs.Steps.{placeRule};
 use state::State;
 use state::Status;
 use state::TaskState;
 use words::word;
+
+const TASKS: usize = limits::TASKS as usize;
 
 // The words of a plan that are read by number.
 const SIGNAL_COUNT: usize = 1;
@@ -152,15 +157,41 @@ fn is_idle(x: TaskState) -> bool
         & zeros_from(&x.held, 0)
 }
 
-// Task i. One task's state is passed, not the whole of 1.5 KB.
-fn task_holds(plan: &[u8], tick: u32, task: u32, x: TaskState) -> bool
-    ensures { λ r. ⌜ r ≡ taskRule (planOf (now (plan .entry))) tick task x ⌝ }
+// The tasks that the plan has, of the first `count`.
+fn tasks_fit(plan: &[u8], tick: u32, tasks: [TaskState; TASKS], count: u32) -> bool
+    requires { ⌜ (count ≤ taskCount (wordsOf (now plan))) × (count ≤ maxTasks) ⌝ }
+    ensures { λ r. ⌜ r ≡ all (λ i. taskRule (planOf (now (plan .entry))) tick i (stateAt tasks i)) (tab (λ i. i) 0 count) ⌝ }
 {
-    if task < word(plan, TASK_COUNT) {
-        task_fits(plan_check::task_part(plan, task), tick, x)
-    } else {
-        is_idle(x)
+    let mut good = true;
+    let mut i: u32 = 0;
+    while i < count {
+        let x = tasks[i as usize];
+        let one = task_fits(plan_check::task_part(plan, i), tick, x);
+        good = good & one;
+        i += 1;
     }
+    good
+}
+
+// Those from `count` on, in a loop of their own: were both asked in one, all numbers of a task would be kept at hand for either.
+fn rest_idle(tasks: [TaskState; TASKS], count: u32) -> bool
+    ensures { λ r. ⌜ r ≡ all (λ i. isIdle (stateAt tasks i)) (tab (λ i. i) count (maxTasks - count)) ⌝ }
+{
+    let mut good = true;
+    let mut i = count;
+    while i < limits::TASKS {
+        let x = tasks[i as usize];
+        let one = is_idle(x);
+        good = good & one;
+        i += 1;
+    }
+    good
+}
+
+fn smaller(a: u32, b: u32) -> u32
+    ensures { λ r. ⌜ r ≡ min a b ⌝ }
+{
+    if a <= b { a } else { b }
 }
 
 // For an accepted plan and accepted events: that instants never fall is what the event place is told by.
@@ -169,15 +200,10 @@ pub fn fits(plan: &[u8], events: &[u8], state: State) -> bool
     ensures { λ r. ⌜ r ≡ fits (planOf (now (plan .entry))) (eventsOf (now (events .entry))) state ⌝ }
 {
     let tick = state.tick;
-    let mut good = (tick <= limits::TIME)
+    let tasks = state.tasks;
+    let count = smaller(word(plan, TASK_COUNT), limits::TASKS);
+    (tick <= limits::TIME)
         & place_holds(events, tick, state.place)
-        & zeros_from(&state.signals, word(plan, SIGNAL_COUNT));
-    let mut i: u32 = 0;
-    while i < limits::TASKS {
-        let x = state.tasks[i as usize];
-        let one = task_holds(plan, tick, i, x);
-        good = good & one;
-        i += 1;
-    }
-    good
+        & zeros_from(&state.signals, word(plan, SIGNAL_COUNT))
+        & (tasks_fit(plan, tick, tasks, count) & rest_idle(tasks, count))
 }

@@ -2,6 +2,7 @@
 ghost use mathlib.Core.Path.{_≡_};
 ghost use Prim.Native.Nat.{_+_, _≤_, _^_};
 ghost use Rattle.events.specs.Events.{eventCount};
+ghost use Rattle.steps.specs.Flat.{WholeBodies};
 ghost use Rattle.step.specs.Step.{given, placeAfter, stepFlat, stepCalled, Ready, Stepped};
 use step_deadlines::deadlines;
 use step_releases::Instant;
@@ -34,6 +35,7 @@ pub fn step(
     requires { ⌜ last ≡ placeAfter (given (now plan) (now rows) count (now events)) (clock .tick) (clock .place) ⌝ }
     requires { ⌜ stepCalled calls (given (now plan) (now rows) count (now events)) (clock .tick) (clock .place) (record { signals = now signals; tasks = now tasks; latched = now latched; held = now held })
         ≡ stepFlat (given (now plan) (now rows) count (now events)) (clock .tick) (clock .place) (record { signals = now signals; tasks = now tasks; latched = now latched; held = now held }) ⌝ }
+    requires { ⌜ WholeBodies (now plan) (now rows) count ⌝ }
     ensures { λ r. ⌜ Stepped clock r (record { signals = now (signals .exit); tasks = now (tasks .exit); latched = now (latched .exit); held = now (held .exit) }) (now (trace .entry)) (now (trace .exit))
         (given (now (plan .entry)) (now (rows .entry)) count (now (events .entry)))
         (record { signals = now (signals .entry); tasks = now (tasks .entry); latched = now (latched .entry); held = now (held .entry) }) ⌝ }

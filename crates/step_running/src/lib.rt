@@ -3,10 +3,11 @@ ghost use mathlib.Core.Path.{_≡_};
 ghost use Prim.Native.Nat.{_+_, _-_, _<_, _≤_, _^_, min};
 ghost use Rattle.limits.specs.Limits.{maxTasks};
 ghost use Rattle.words.specs.Words.{wordsOf};
-ghost use Rattle.plan.specs.File.{taskOf};
+ghost use Rattle.plan.specs.File.{taskOf, bodyPart};
 ghost use Rattle.body.specs.Body.{body};
+ghost use Rattle.body.specs.Steps.{Whole};
 ghost use Rattle.arrays.specs.Arrays.{Does};
-ghost use Rattle.steps.specs.Flat.{portsOf, work, runsFlat};
+ghost use Rattle.steps.specs.Flat.{taskOfRow, portsOf, work, runsFlat, WholeBodies};
 ghost use Rattle.step_running.specs.Finish.{Ran, Finished};
 use arrays::put;
 use arrays::row_field;
@@ -25,6 +26,7 @@ fn smaller(a: usize, b: usize) -> usize
 // A task's body on its latched inputs and held outputs: the machine state that it leaves. The ports are cut to those that there
 // are, so that nothing need be known of the task number.
 fn run_ports(part: &[u8], task: u32, machine: u32, latched: &[u32], held: &mut [u32]) -> u32
+    requires { ⌜ Whole (now part) ⌝ }
     ensures { λ r. ⌜ Ran (body (taskOf (wordsOf (now (part .entry)))) (portsOf (now (latched .entry)) task) machine (portsOf (now (held .entry)) task)) task (now (held .entry)) (now (held .exit)) r ⌝ }
 {
     let at = task as usize * PORTS;
@@ -37,6 +39,7 @@ fn run_ports(part: &[u8], task: u32, machine: u32, latched: &[u32], held: &mut [
 
 // The body of a task runs, and the task is FINISHED.
 fn finish_task(plan: &[u8], task: u32, tasks: &mut [u32], latched: &[u32], held: &mut [u32])
+    requires { ⌜ Whole (bodyPart (now plan) task) ⌝ }
     ensures { λ _. ⌜ Finished (wordsOf (now (plan .entry))) task (now (latched .entry)) (now (tasks .entry)) (now (tasks .exit)) (now (held .entry)) (now (held .exit)) ⌝ }
 {
     let machine = task_field(tasks, task, 3);
@@ -74,6 +77,7 @@ fn work_row(
     from: usize,
 ) -> usize
     requires { ⌜ from < 2 ^ 63 ⌝ }
+    requires { ⌜ Whole (bodyPart (now plan) (taskOfRow (now rows) row)) ⌝ }
     ensures { λ r. ⌜ Does (record { signals = now (signals .exit); tasks = now (tasks .exit); latched = now (latched .entry); held = now (held .exit) }) (now (trace .entry)) (now (trace .exit)) from r
         (work t (wordsOf (now (plan .entry))) (now (rows .entry)) row (record { signals = now (signals .entry); tasks = now (tasks .entry); latched = now (latched .entry); held = now (held .entry) })) ⌝ }
     ensures near { λ r. ⌜ r ≤ from + 2 ^ 35 ⌝ }
@@ -108,6 +112,7 @@ pub fn run_urgent(
     from: usize,
 ) -> usize
     requires { ⌜ (count ≤ maxTasks) × (from < 2 ^ 62 + 2 ^ 42) ⌝ }
+    requires { ⌜ WholeBodies (now plan) (now rows) count ⌝ }
     ensures { λ r. ⌜ Does (record { signals = now (signals .exit); tasks = now (tasks .exit); latched = now (latched .entry); held = now (held .exit) }) (now (trace .entry)) (now (trace .exit)) from r
         (runsFlat t (wordsOf (now (plan .entry))) (now (rows .entry)) count (record { signals = now (signals .entry); tasks = now (tasks .entry); latched = now (latched .entry); held = now (held .entry) })) ⌝ }
     ensures near { λ r. ⌜ r ≤ from + 2 ^ 35 ⌝ }

@@ -1,6 +1,6 @@
 -- The steps of a tick over the arrays of numbers, as the code does them: what its contracts say. That they are document 01's
 -- steps (tick/specs) is shown in the crate `whole`.
-use Prim.Native.Nat.{ℕ, zero, suc, _+_, _-_, _*_, _%_}
+use Prim.Native.Nat.{ℕ, zero, suc, _+_, _-_, _*_, _%_, _<_}
 use mathlib.Core.Bool.{Bool, cond, not, _&&_}
 use mathlib.Core.List.{List, [], _∷_, _++_, map}
 use lib.ListN.{length, getD, set, take, drop, replicate}
@@ -8,9 +8,10 @@ use lib.Dec.{leb, ltb, eqb}
 use Rattle.limits.specs.Limits.{maxPorts}
 use Rattle.marks.specs.Marks.{has}
 use Rattle.lists.specs.Lists.{tab}
-use Rattle.plan.specs.File.{taskOf, bodyOf}
+use Rattle.plan.specs.File.{taskOf, bodyOf, bodyPart}
 use Rattle.events.specs.Events.{Event, eventOf}
 use Rattle.body.specs.Body.{body}
+use Rattle.body.specs.Steps.{Whole}
 use Rattle.body.specs.declared.Result.{Result}
 use Rattle.trace.specs.Trace.{releaseKind, missKind, overrunKind, ignoredKind, entry, writeEntry}
 use Rattle.trace.specs.declared.Entry.{Entry}
@@ -177,3 +178,7 @@ unfoldable pub runsFlat : ℕ → List ℕ → List ℕ → ℕ → Arrays → S
 runsFlat t ws rows n a =
     let j = firstActive rows (a .tasks) n 0 in
     cond (ltb j n) (work t ws rows j a) (still a)
+
+-- what its code asks, since it reads without a test: the body parts of the tasks of n rows hold all their transitions and actions
+abbrev pub WholeBodies : List ℕ → List ℕ → ℕ → Type 0
+WholeBodies planBytes rows n = (j : ℕ) → j < n → Whole (bodyPart planBytes (taskOfRow rows j))

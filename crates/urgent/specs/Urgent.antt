@@ -11,9 +11,9 @@ use Rattle.urgent.specs.declared.TaskRecord.{TaskRecord}
 abbrev pub noRank : ℕ
 noRank = topValue
 
--- plans of no more tasks than this are walked in a shorter array
-abbrev pub fewTasks : ℕ
-fewTasks = 4
+-- so many records are lent at a time
+abbrev pub pairSize : ℕ
+pairSize = 2
 
 abbrev pub isActive : TaskRecord → Bool
 isActive x = eqb (x .status) active

@@ -3,12 +3,10 @@ ghost use mathlib.Core.Path.{_≡_};
 ghost use Prim.Native.Nat.{min};
 ghost use Rattle.urgent.specs.Urgent.{keyOf, leastRank};
 
-const TASKS: usize = limits::TASKS as usize;
+// So many records are lent at a time. Rows stand in order of priority, so the first pair with an ACTIVE record ends the search.
+pub const PAIR: u32 = 2;
 
-// Plans of no more tasks than this are walked in a shorter array.
-pub const FEW: u32 = 4;
-
-const FEW_TASKS: usize = FEW as usize;
+const RECORDS: usize = PAIR as usize;
 
 // What stands for no rank: above every rank that a task has.
 pub const NONE: u32 = limits::TOP_VALUE as u32;
@@ -51,16 +49,9 @@ pub fn most_urgent(records: &[TaskRecord]) -> u32
     best
 }
 
-// The same of an array that is passed by value: it lends its own copy, so whoever calls it lends nothing.
-pub fn urgent_of(records: [TaskRecord; TASKS]) -> u32
-    ensures { λ r. ⌜ r ≡ leastRank records ⌝ }
+// The same of a pair that is passed by value: it lends its own copy, so whoever calls it lends nothing.
+pub fn urgent_of(pair: [TaskRecord; RECORDS]) -> u32
+    ensures { λ r. ⌜ r ≡ leastRank pair ⌝ }
 {
-    most_urgent(&records)
-}
-
-// And of a shorter one.
-pub fn urgent_of_few(few: [TaskRecord; FEW_TASKS]) -> u32
-    ensures { λ r. ⌜ r ≡ leastRank few ⌝ }
-{
-    most_urgent(&few)
+    most_urgent(&pair)
 }

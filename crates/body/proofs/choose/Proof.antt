@@ -1,6 +1,7 @@
-use Prim.Native.Nat.{_≤_, _<_, _+_, _*_, _-_, _^_}
+use Prim.Native.Nat.{_≤_, _+_, _*_, _-_}
 use native.Mathlib.Nat.{sub-zero}
 use mathlib.Core.Path.{_≡_}
+use lib.ListN.{length}
 use borrow.Author.Needs.{needs}
 use Rattle.words.specs.Words.{wordsOf}
 use Rattle.lists.specs.Lists.{tab}
@@ -13,13 +14,13 @@ use Rattle.body.proofs.choose.Tie as tie
 
 -- the transitions from j on, with the best so far, give what all of them give
 abbrev Inv-loop : tie.InvT-loop
-Inv-loop part latched machine first count best₀ j₀ best j =
-    (j ≤ count) × (best < 2 ^ 40)
-    × (fires latched machine (tab (λ i. transitionAt (wordsOf part) (transitionsAt (wordsOf part) + i * 4)) 0 count)
-    ≡ inTurn (look latched machine) (tab (λ i. transitionAt (wordsOf part) (transitionsAt (wordsOf part) + i * 4)) j (count - j)) (inHand (wordsOf part) best))
+Inv-loop part latched machine first transitions best₀ j₀ best j =
+    (j ≤ transitions) × (best * 4 + 16 ≤ length part)
+    × (fires latched machine (tab (λ i. transitionAt (wordsOf part) (transitionsAt (wordsOf part) + i * 4)) 0 transitions)
+    ≡ inTurn (look latched machine) (tab (λ i. transitionAt (wordsOf part) (transitionsAt (wordsOf part) + i * 4)) j (transitions - j)) (inHand (wordsOf part) best))
 
 abbrev μ-loop : tie.MeasureT-loop
-μ-loop part latched machine first count best₀ j₀ best j = count - j
+μ-loop part latched machine first transitions best₀ j₀ best j = transitions - j
 
 loop-holds : tie.Need-loop-holds Inv-loop μ-loop
 loop-holds c = (search needs, search needs, rw sub-zero)

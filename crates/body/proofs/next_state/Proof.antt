@@ -10,7 +10,7 @@ returns c = rw (eq-eqb _ _ (c .if1 .taken))
 
 returns-2 : tie.Need-returns-2
 unfolding after
-returns-2 c = rw (ne-eqb (c .before .before .before .args .taken) 0 (c .before .if1 .left)) (c .word .ensures)
+returns-2 c = rw (ne-eqb (c .before .before .before .args .taken) 0 (c .before .if1 .left)) (c .known .ensures)
 
 pub next-state-spec : {M : Type 1} → statement M
 next-state-spec = tie.close (tie.spec (λ c. search needs) (λ c κs. search needs) returns returns-2)

@@ -13,13 +13,13 @@ use Rattle.body.proofs.run_actions.Tie as tie
 
 -- the actions from j on, on what those before left, leave what all of them leave
 abbrev Inv-loop : tie.InvT-loop
-Inv-loop part latched state held₀ first count j₀ held j =
-    (j ≤ count) × (length held ≡ length held₀)
-    × (runActions latched state (tab (λ i. actionAt (wordsOf part) (actionsAt (wordsOf part) + i * 5)) 0 count) held₀
-    ≡ runActions latched state (tab (λ i. actionAt (wordsOf part) (actionsAt (wordsOf part) + i * 5)) j (count - j)) held)
+Inv-loop part latched state held₀ first actions j₀ held j =
+    (j ≤ actions) × (length held ≡ length held₀)
+    × (runActions latched state (tab (λ i. actionAt (wordsOf part) (actionsAt (wordsOf part) + i * 5)) 0 actions) held₀
+    ≡ runActions latched state (tab (λ i. actionAt (wordsOf part) (actionsAt (wordsOf part) + i * 5)) j (actions - j)) held)
 
 abbrev μ-loop : tie.MeasureT-loop
-μ-loop part latched state held₀ first count j₀ held j = count - j
+μ-loop part latched state held₀ first actions j₀ held j = actions - j
 
 loop-holds : tie.Need-loop-holds Inv-loop μ-loop
 loop-holds c = (search needs, search needs, rw sub-zero)

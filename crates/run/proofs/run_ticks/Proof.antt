@@ -15,32 +15,29 @@ abbrev arrays : List ℕ → List ℕ → List ℕ → List ℕ → Arrays
 arrays signals tasks latched held = record { signals = signals; tasks = tasks; latched = latched; held = held }
 
 abbrev Inv-loop : tie.InvT-loop
-Inv-loop plan rows count events asked signals₀ tasks₀ latched₀ held₀ trace₀ most driven wakes₀ now₀ done₀ look₀ signals tasks latched held trace wakes now done look =
+Inv-loop plan rows count events asked signals₀ tasks₀ latched₀ held₀ trace₀ most wakes₀ now₀ done₀ look₀ signals tasks latched held trace wakes now done look =
     Kept (given plan rows count events) asked (arrays signals₀ tasks₀ latched₀ held₀) trace₀ now₀ (arrays signals tasks latched held) trace now done
-    × Watched rows count driven tasks (now .tick) wakes
+    × Watched rows count tasks (now .tick) wakes
 
 abbrev μ-loop : tie.MeasureT-loop
-μ-loop plan rows count events asked signals₀ tasks₀ latched₀ held₀ trace₀ most driven wakes₀ now₀ done₀ look₀ signals tasks latched held trace wakes now done look = toGo asked done look
+μ-loop plan rows count events asked signals₀ tasks₀ latched₀ held₀ trace₀ most wakes₀ now₀ done₀ look₀ signals tasks latched held trace wakes now done look = toGo asked done look
 
 most-entries-requires : tie.Need-most-entries-requires Inv-loop μ-loop
 most-entries-requires c κs = c .before .before .before .before .before .before .before .before .pre .0 .rows
 
-driven-requires : tie.Need-driven-requires Inv-loop μ-loop
-driven-requires c κs = c .before .before .before .before .before .before .before .before .before .pre .0 .rows
-
 no-wakes-requires : tie.Need-no-wakes-requires Inv-loop μ-loop
-no-wakes-requires c κs = c .before .before .before .before .before .before .before .before .before .before .pre .0 .rows
+no-wakes-requires c κs = c .before .before .before .before .before .before .before .before .before .pre .0 .rows
 
 loop-holds : tie.Need-loop-holds Inv-loop μ-loop
 loop-holds c = (
-  kept-none _ _ _ _ _ _ (c .before .before .before .before .before .before .before .before .before .before .before .pre .0) (c .before .before .before .before .before .before .before .before .before .before .before .pre .1 .0),
-  record { distinct = c .before .before .before .before .before .before .before .before .before .before .before .pre .1 .1; event-driven = c .before .driven .ensures; instants = λ j h t l b. absurd (omega (arith, b, c .no-wakes .ensures j h)) },
+  kept-none _ _ _ _ _ _ (c .before .before .before .before .before .before .before .before .before .before .pre .0) (c .before .before .before .before .before .before .before .before .before .before .pre .1 .0),
+  record { distinct = c .before .before .before .before .before .before .before .before .before .before .pre .1 .1 .0; instants = λ j h t l b. absurd (omega (arith, b, c .no-wakes .ensures j h)) },
 )
 
 turn-requires : tie.Need-turn-requires Inv-loop μ-loop
 turn-requires c κs = (
-  kept-ready _ _ _ _ _ _ _ _ _ (c .before .before .before .before .before .before .before .loop .inv .0) _ (c .before .before .before .before .before .before .before .before .before .before .before .before .before .before .before .before .before .before .before .pre .0) (c .before .before .before .before .before .before .loop-test .taken),
-  (c .before .before .before .before .before .before .before .loop .inv .0 .sizes, (c .before .before .before .before .before .before .before .before .before .before .most-entries .ensures, (kept-asks _ _ _ _ _ _ _ _ _ (c .before .before .before .before .before .before .before .loop .inv .0) _ (c .before .before .before .before .before .before .before .before .before .before .before .before .before .before .before .before .before .before .before .pre .0) (c .before .before .before .before .before .before .loop-test .taken), c .before .before .before .before .before .before .before .loop .inv .1))),
+  kept-ready _ _ _ _ _ _ _ _ _ (c .before .before .before .before .before .before .before .loop .inv .0) _ (c .before .before .before .before .before .before .before .before .before .before .before .before .before .before .before .before .before .before .pre .0) (c .before .before .before .before .before .before .loop-test .taken),
+  (c .before .before .before .before .before .before .before .loop .inv .0 .sizes, (c .before .before .before .before .before .before .before .before .before .most-entries .ensures, (kept-asks _ _ _ _ _ _ _ _ _ (c .before .before .before .before .before .before .before .loop .inv .0) _ (c .before .before .before .before .before .before .before .before .before .before .before .before .before .before .before .before .before .before .pre .0) (c .before .before .before .before .before .before .loop-test .taken), (c .before .before .before .before .before .before .before .loop .inv .1, c .before .before .before .before .before .before .before .before .before .before .before .before .before .before .before .before .before .before .pre .1 .1 .1)))),
 )
 
 add-total : tie.Need-add-total Inv-loop μ-loop
@@ -54,24 +51,24 @@ loop-less c = nearer _ _ _ _ (c .before .before .before .before .before .before 
 
 loop-again : tie.Need-loop-again Inv-loop μ-loop
 loop-again c = (
-  kept-more _ _ _ _ _ _ _ _ _ (c .before .before .before .before .before .before .before .before .before .before .before .before .before .before .before .before .before .before .before .before .before .loop .inv .0) _ _ _ (c .before .before .before .before .before .before .before .before .before .before .before .before .before .turn .ensures .0) (c .if1 .left) (record { signals = c .before .before .before .before .before .before .before .before .before .before .before .before .before .turn .kept .1 .1 .1 .1 .1 .1 .1 .1 .1 .1 .0; tasks = c .before .before .before .before .before .before .before .before .before .before .before .before .before .turn .kept .1 .1 .1 .1 .1 .1 .1 .1 .1 .1 .1 .0; latched = c .before .before .before .before .before .before .before .before .before .before .before .before .before .turn .kept .1 .1 .1 .1 .1 .1 .1 .1 .1 .1 .1 .1 .0; held = c .before .before .before .before .before .before .before .before .before .before .before .before .before .turn .kept .1 .1 .1 .1 .1 .1 .1 .1 .1 .1 .1 .1 .1 .0 }) (c .before .before .before .before .before .before .before .before .before .before .before .before .before .turn .kept .1 .1 .1 .1 .1 .1 .1 .1 .1 .1 .1 .1 .1 .1 .0),
+  kept-more _ _ _ _ _ _ _ _ _ (c .before .before .before .before .before .before .before .before .before .before .before .before .before .before .before .before .before .before .before .before .before .loop .inv .0) _ _ _ (c .before .before .before .before .before .before .before .before .before .before .before .before .before .turn .ensures .0) (c .if1 .left) (record { signals = c .before .before .before .before .before .before .before .before .before .before .before .before .before .turn .kept .1 .1 .1 .1 .1 .1 .1 .1 .1 .0; tasks = c .before .before .before .before .before .before .before .before .before .before .before .before .before .turn .kept .1 .1 .1 .1 .1 .1 .1 .1 .1 .1 .0; latched = c .before .before .before .before .before .before .before .before .before .before .before .before .before .turn .kept .1 .1 .1 .1 .1 .1 .1 .1 .1 .1 .1 .0; held = c .before .before .before .before .before .before .before .before .before .before .before .before .before .turn .kept .1 .1 .1 .1 .1 .1 .1 .1 .1 .1 .1 .1 .0 }) (c .before .before .before .before .before .before .before .before .before .before .before .before .before .turn .kept .1 .1 .1 .1 .1 .1 .1 .1 .1 .1 .1 .1 .1 .0),
   c .before .before .before .before .before .before .before .before .before .before .before .before .before .turn .ensures .1 .1,
 )
 
 same-length : tie.Need-same-length Inv-loop μ-loop
-same-length c = c .before .before .before .before .before .before .before .before .before .before .before .before .before .turn .kept .1 .1 .1 .1 .1 .1 .1 .1 .1 .1 .0 ∙ c .before .before .before .before .before .before .before .before .before .before .before .before .before .before .before .before .before .before .before .before .before .loop .inv .0 .long .signals
+same-length c = c .before .before .before .before .before .before .before .before .before .before .before .before .before .turn .kept .1 .1 .1 .1 .1 .1 .1 .1 .1 .0 ∙ c .before .before .before .before .before .before .before .before .before .before .before .before .before .before .before .before .before .before .before .before .before .loop .inv .0 .long .signals
 
 same-length-2 : tie.Need-same-length-2 Inv-loop μ-loop
-same-length-2 c = c .before .before .before .before .before .before .before .before .before .before .before .before .before .turn .kept .1 .1 .1 .1 .1 .1 .1 .1 .1 .1 .1 .0 ∙ c .before .before .before .before .before .before .before .before .before .before .before .before .before .before .before .before .before .before .before .before .before .loop .inv .0 .long .tasks
+same-length-2 c = c .before .before .before .before .before .before .before .before .before .before .before .before .before .turn .kept .1 .1 .1 .1 .1 .1 .1 .1 .1 .1 .0 ∙ c .before .before .before .before .before .before .before .before .before .before .before .before .before .before .before .before .before .before .before .before .before .loop .inv .0 .long .tasks
 
 same-length-3 : tie.Need-same-length-3 Inv-loop μ-loop
-same-length-3 c = c .before .before .before .before .before .before .before .before .before .before .before .before .before .turn .kept .1 .1 .1 .1 .1 .1 .1 .1 .1 .1 .1 .1 .0 ∙ c .before .before .before .before .before .before .before .before .before .before .before .before .before .before .before .before .before .before .before .before .before .loop .inv .0 .long .latched
+same-length-3 c = c .before .before .before .before .before .before .before .before .before .before .before .before .before .turn .kept .1 .1 .1 .1 .1 .1 .1 .1 .1 .1 .1 .0 ∙ c .before .before .before .before .before .before .before .before .before .before .before .before .before .before .before .before .before .before .before .before .before .loop .inv .0 .long .latched
 
 same-length-4 : tie.Need-same-length-4 Inv-loop μ-loop
-same-length-4 c = c .before .before .before .before .before .before .before .before .before .before .before .before .before .turn .kept .1 .1 .1 .1 .1 .1 .1 .1 .1 .1 .1 .1 .1 .0 ∙ c .before .before .before .before .before .before .before .before .before .before .before .before .before .before .before .before .before .before .before .before .before .loop .inv .0 .long .held
+same-length-4 c = c .before .before .before .before .before .before .before .before .before .before .before .before .before .turn .kept .1 .1 .1 .1 .1 .1 .1 .1 .1 .1 .1 .1 .0 ∙ c .before .before .before .before .before .before .before .before .before .before .before .before .before .before .before .before .before .before .before .before .before .loop .inv .0 .long .held
 
 same-length-5 : tie.Need-same-length-5 Inv-loop μ-loop
-same-length-5 c = c .before .before .before .before .before .before .before .before .before .before .before .before .before .turn .kept .1 .1 .1 .1 .1 .1 .1 .1 .1 .1 .1 .1 .1 .1 .0 ∙ c .before .before .before .before .before .before .before .before .before .before .before .before .before .before .before .before .before .before .before .before .before .loop .inv .0 .trace-long
+same-length-5 c = c .before .before .before .before .before .before .before .before .before .before .before .before .before .turn .kept .1 .1 .1 .1 .1 .1 .1 .1 .1 .1 .1 .1 .1 .0 ∙ c .before .before .before .before .before .before .before .before .before .before .before .before .before .before .before .before .before .before .before .before .before .loop .inv .0 .trace-long
 
 same-length-6 : tie.Need-same-length-6 Inv-loop μ-loop
 same-length-6 c = c .before .loop .inv .0 .long .signals
@@ -98,7 +95,6 @@ run-ticks-spec =
     Inv-loop
     μ-loop
     most-entries-requires
-    driven-requires
     no-wakes-requires
     loop-holds
     (λ c. search needs)

@@ -7,12 +7,12 @@ use Rattle.run.proofs.turn.Statement.{statement}
 use Rattle.run.proofs.turn.Tie as tie
 
 rest-requires : tie.Need-rest-requires
-rest-requires c κs = ((c .before .before .before .before .before .before .before .before .before .before .before .pre .0 .rows, c .before .before .before .before .before .before .before .before .before .before .before .pre .0 .place, c .before .before .before .before .before .before .before .before .before .before .before .pre .1 .1 .1 .0 .2), c .before .before .before .before .before .before .before .before .before .before .before .pre .1 .1 .1 .1 .instants)
+rest-requires c κs = ((c .before .before .before .before .before .before .before .before .before .before .before .pre .0 .rows, c .before .before .before .before .before .before .before .before .before .before .before .pre .0 .place, c .before .before .before .before .before .before .before .before .before .before .before .pre .1 .1 .1 .0 .2), c .before .before .before .before .before .before .before .before .before .before .before .pre .1 .1 .1 .1 .0 .instants)
 
 returns : tie.Need-returns
 returns c = (
   c .before .before .rest .ensures .0 _ _ _ _ _ (c .before .before .before .before .before .before .before .before .before .before .before .before .before .before .pre .1 .1 .1 .0 .0),
-  (λ e f. absurd (true≢false (sym (c .before .before .before .before .before .if1 .taken) ∙ e)), record { distinct = c .before .before .before .before .before .before .before .before .before .before .before .before .before .before .pre .1 .1 .1 .1 .distinct; event-driven = c .before .before .before .before .before .before .before .before .before .before .before .before .before .before .pre .1 .1 .1 .1 .event-driven; instants = c .before .before .rest .ensures .1 }),
+  (λ e f. absurd (true≢false (sym (c .before .before .before .before .before .if1 .taken) ∙ e)), record { distinct = c .before .before .before .before .before .before .before .before .before .before .before .before .before .before .pre .1 .1 .1 .1 .0 .distinct; instants = c .before .before .rest .ensures .1 }),
 )
 
 -- a number above 0 is one more than another

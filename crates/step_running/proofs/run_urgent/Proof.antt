@@ -7,6 +7,9 @@ use borrow.Author.Needs.{needs}
 use Rattle.step_running.proofs.run_urgent.Statement.{statement}
 use Rattle.step_running.proofs.run_urgent.Tie as tie
 
+work-row-requires : tie.Need-work-row-requires
+work-row-requires c κs = (omega arith, c .before .before .before .before .before .before .before .before .before .before .before .before .before .before .pre .1 _ (c .before .before .before .before .if1 .taken))
+
 returns : tie.Need-returns
 unfolding runsFlat
 returns c = (rw (← c .before .before .before .before .before .before .before .before .before .before .before .before .before .before .running-row .ensures, lt-ltb _ _ (c .before .before .before .before .before .before .before .before .before .before .before .before .before .if1 .taken)) (c .before .before .before .before .before .before .before .before .work-row .ensures .0), c .before .before .before .before .before .before .before .before .work-row .ensures .1)
@@ -20,7 +23,7 @@ run-urgent-spec =
     tie.close
     (tie.spec
     (λ c κs. search needs)
-    (λ c κs. search needs)
+    work-row-requires
     (λ c. search needs)
     (λ c. search needs)
     (λ c. search needs)

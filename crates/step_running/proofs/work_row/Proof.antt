@@ -16,6 +16,9 @@ returns c = (
   omega arith,
 )
 
+finish-task-requires : tie.Need-finish-task-requires
+finish-task-requires c κs = rw (c .before .before .before .before .before .before .before .row-field .ensures) (c .before .before .before .before .before .before .before .before .before .before .before .before .before .before .before .pre .1)
+
 returns-2 : tie.Need-returns-2
 unfolding work over
 returns-2 c = (
@@ -45,7 +48,7 @@ work-row-spec =
     (λ c κs. search needs)
     (λ c. search needs)
     returns
-    (λ c κs. search needs)
+    finish-task-requires
     (λ c. search needs)
     (λ c. search needs)
     returns-2

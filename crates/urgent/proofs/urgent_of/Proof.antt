@@ -1,4 +1,4 @@
--- `urgent::urgent_of` meets its contract: a walk of its MIR, by hand. The array is copied into a local that lies in memory, and that local is lent as a slice for a lifetime that the walk makes: the call, and the lifetime is ended, and the memory is back.
+-- `urgent::urgent_of` meets its contract: a walk of its MIR, by hand. The pair is copied into a local that lies in memory, and that local is lent as a slice for a lifetime that the walk makes: the call, and the lifetime is ended, and the memory is back.
 -- All that the proof knows of `most_urgent` is that it meets its contract.
 use mathlib.Core.Path.{_≡_, refl, sym, subst}
 use Prim.Native.Nat.{ℕ, _<_, _≤_, _*_, _^_}
@@ -45,8 +45,7 @@ use denote.Triple.Table.{entered, cited}
 use denote.Triple.Walked.{says, Stays, stay-none, walkOf, goes-none, Walks, ends-at, walked, walk-meets}
 use denote.Exit.{yes}
 use denote.Triple.Clauses.{ensured, lasts}
-use Rattle.limits.specs.Limits.{maxTasks}
-use Rattle.urgent.specs.Urgent.{leastRank}
+use Rattle.urgent.specs.Urgent.{pairSize, leastRank}
 use Rattle.urgent.specs.declared.TaskRecord.{TaskRecord}
 use Rattle.urgent.proofs.TaskRecord as T
 use Rattle.urgent.proofs.TaskRecord.Laws as T′
@@ -64,16 +63,16 @@ R = T.the-row
 
 -- the array's type, as a value and as MIR has it
 abbrev All : RattleType
-All = Array R maxTasks
+All = Array R pairSize
 
 abbrev array : Ty
-array = tyArray T′.mir maxTasks
+array = tyArray T′.mir pairSize
 
 abbrev stayed : Stays (whole.ended .signature .params) (whole.ended .kept)
 stayed = (stay-none (λ _. All) yes, tt)
 
 abbrev tell : Tells All (Is All) (array-vals (LL.vals T.the-type T′.the-laws))
-tell = array-tells R (LL.vals T.the-type T′.the-laws) (LL.tells T.the-type T′.the-laws) maxTasks
+tell = array-tells R (LL.vals T.the-type T′.the-laws) (LL.tells T.the-type T′.the-laws) pairSize
 
 -- the machine value of the array
 abbrev allV : List TaskRecord → Val
@@ -86,20 +85,20 @@ module _ {M : Type 1} (𝓤 : URA M) (H : Heap 𝓤) (A : Atoms 𝓤) (mem : Mem
 
 module _ {M : Type 1} (𝓤 : URA M) (H : Heap 𝓤) (A : Atoms 𝓤) (W : Given 𝓤 H A) where
   all-makes : Makes 𝓤 H A All (Is All)
-  all-makes = array-makes 𝓤 H A W R (LL.makes T.the-type T′.the-plain 𝓤 H A) maxTasks
+  all-makes = array-makes 𝓤 H A W R (LL.makes T.the-type T′.the-plain 𝓤 H A) pairSize
 
   -- the array in memory is its elements in memory, and back: then it is room
-  apart : (ts : List TaskRecord) (l : ℕ) → Is All ts (allV ts ∷ []) → ent 𝓤 (H .at fullShare array l 0 (allV ts)) (sem 𝓤 H A (arr-parts (shares R) maxTasks .part fullShare ts l 0))
+  apart : (ts : List TaskRecord) (l : ℕ) → Is All ts (allV ts ∷ []) → ent 𝓤 (H .at fullShare array l 0 (allV ts)) (sem 𝓤 H A (arr-parts (shares R) pairSize .part fullShare ts l 0))
   unfolding partOf
   apart ts l is =
       qed W (‵ (fat fullShare array l 0 (allV ts)) ∷ []) ∵ use1 W (‵ (cellAt fullShare (All .mir) (allV ts ∷ []) l 0)) (W .laws .at-raw fullShare array l 0 (allV ts)) $
       owned ! All (Is All) all-makes ts (allV ts ∷ []) is $ move ! (1 ∷ 0 ∷ []) $ fjoin ! $ fpack ! (List Val) (λ vs. fsep (cellAt fullShare (All .mir) vs l 0) (All .own ts vs)) (allV ts ∷ []) $
-      by ! (array-apart 𝓤 H A W R fullShare tt maxTasks ts l 0)
+      by ! (array-apart 𝓤 H A W R fullShare tt pairSize ts l 0)
 
-  room-again : (ts : List TaskRecord) (l : ℕ) → ent 𝓤 (sem 𝓤 H A (arr-parts (shares R) maxTasks .part fullShare ts l 0)) (H .room array l 0)
+  room-again : (ts : List TaskRecord) (l : ℕ) → ent 𝓤 (sem 𝓤 H A (arr-parts (shares R) pairSize .part fullShare ts l 0)) (H .room array l 0)
   unfolding partOf
   room-again ts l =
-      qed W (‵ (arr-parts (shares R) maxTasks .part fullShare ts l 0) ∷ []) ∵ use1 W (‵ (partAt All fullShare ts l 0)) (array-whole 𝓤 H A W R fullShare maxTasks ts l 0) $ fpick ! (λ vs. fsplit ! $
+      qed W (‵ (arr-parts (shares R) pairSize .part fullShare ts l 0) ∷ []) ∵ use1 W (‵ (partAt All fullShare ts l 0)) (array-whole 𝓤 H A W R fullShare pairSize ts l 0) $ fpick ! (λ vs. fsplit ! $
       spelt ! All (Is All) (shows 𝓤 H A All) (array-vals (LL.vals T.the-type T′.the-laws)) tell fullShare ts vs l 0 $ keep ! (0 ∷ []) $
       use1 W (‵ (fat fullShare array l 0 (allV ts))) (W .laws .raw-at fullShare array l 0 (allV ts)) $ by ! (W .laws .at-room array l 0 (allV ts)))
 
@@ -107,7 +106,7 @@ module _ {M : Type 1} (𝓤 : URA M) (H : Heap 𝓤) (A : Atoms 𝓤) (W : Given
   abbrev n : ℕ
   n = length ts
 
-  long : n ≡ maxTasks
+  long : n ≡ pairSize
   long = ist .1 .0 .1
 
   fits : Room R n
@@ -154,13 +153,13 @@ module _ {M : Type 1} (𝓤 : URA M) (H : Heap 𝓤) (A : Atoms 𝓤) (W : Given
     walk =
         qed W (raw (onEntry 𝓤 H A whole.signature tt tt (ts, tt) at) ∷ []) ∵ drop ! $ enter ! C Λ code.function (allV ts ∷ []) _ $
         alloc1 ! (λ l₀. alloc1 ! (λ l₁. alloc1 ! (λ l₂. alloc1 ! (λ l₃. alloc1 ! (λ l₄. alloc0 ! $ params1 ! $
-        pass1 ! (init ! 6 refl (array-typed R (LL.lawful T.the-type T′.the-laws 𝓤 H A W .typed) maxTasks ts _ ist .0)) $ pass0 ! $
-        assigns ! (of-opd ! (load ! (from ! (stop !)) (look ! 6 refl))) (from ! (stop !)) (init ! 4 refl (array-typed R (LL.lawful T.the-type T′.the-laws 𝓤 H A W .typed) maxTasks ts _ ist .0)) $
+        pass1 ! (init ! 6 refl (array-typed R (LL.lawful T.the-type T′.the-laws 𝓤 H A W .typed) pairSize ts _ ist .0)) $ pass0 ! $
+        assigns ! (of-opd ! (load ! (from ! (stop !)) (look ! 6 refl))) (from ! (stop !)) (init ! 4 refl (array-typed R (LL.lawful T.the-type T′.the-laws 𝓤 H A W .typed) pairSize ts _ ist .0)) $
         assigns ! (addr ! (from ! (stop !))) (from ! (stop !)) (init ! 2 refl (tt, tt)) $
         assigns ! (agg ! (and-then ! (load ! (from ! (stop !)) (look ! 2 refl)) (and-then ! (lit ! tt) (no-more !)))) (from ! (stop !)) (init ! 0 refl (tt, (tt, (record { fits = lit< tt }, tt)))) $
         rewrite ! 0 (λ (m : ℕ). ‵ (fat fullShare (sliceTy (tyRef erased imm (pointee (R .written)))) l₄ 0 (sliceVal (l₂, 0) m))) (sym long) refl $
         -- the local array is lent
-        move ! (4 ∷ []) $ use1 W (‵ (arr-parts (shares R) maxTasks .part fullShare ts l₂ 0)) (apart 𝓤 H A W ts l₂ ist) $ rewrite ! 0 (λ (m : ℕ). ‵ (arr-parts (shares R) m .part fullShare ts l₂ 0)) (sym long) refl $
+        move ! (4 ∷ []) $ use1 W (‵ (arr-parts (shares R) pairSize .part fullShare ts l₂ 0)) (apart 𝓤 H A W ts l₂ ist) $ rewrite ! 0 (λ (m : ℕ). ‵ (arr-parts (shares R) m .part fullShare ts l₂ 0)) (sym long) refl $
         lft-new ! tt (λ α. move ! (1 ∷ []) $
         use1 W (later (some (λ (γ : GName). ‵ (Own l₂ α γ) ⊛ ‵ (flent (α ∷ []) (arr-parts (shares R) n .part fullShare ts l₂ 0))))) (lends-shr-slice 𝓤 H A W R (named 0) (α ∷ []) fullShare ts l₂ 0 fits) $ await ! tt $ pick ! (λ γ. split ! $
         -- [what the slice owns; the lender's part; the token; _4; …; _3; …; _2's …; _1; …; room for _0; …]
