@@ -21,7 +21,7 @@ const TASKS: usize = limits::TASKS as usize;
 const PORTS: usize = limits::PORTS as usize;
 
 // A task's status, remaining ticks, release instant and machine state.
-const NUMBERS: u32 = 4;
+const NUMBERS: u32 = arrays::FIELDS as u32;
 
 pub const FIELDS: usize = TASKS * NUMBERS as usize;
 
@@ -58,12 +58,12 @@ fn task_in(tasks: &[u32], latched: &[u32], held: &[u32], task: u32) -> TaskState
 {
     let inputs = ports_in(latched, task);
     let outputs = ports_in(held, task);
-    let status = status_of(task_field(tasks, task, 0));
+    let status = status_of(task_field(tasks, task, arrays::STATUS));
     TaskState {
         status,
-        remaining: task_field(tasks, task, 1),
-        release: task_field(tasks, task, 2),
-        machine: task_field(tasks, task, 3),
+        remaining: task_field(tasks, task, arrays::REMAINING),
+        release: task_field(tasks, task, arrays::RELEASE),
+        machine: task_field(tasks, task, arrays::MACHINE),
         latched: inputs,
         held: outputs,
     }

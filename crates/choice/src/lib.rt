@@ -15,9 +15,9 @@ use urgent::TaskRecord;
 fn record_of(rows: &[u32], row: u32, tasks: &[u32]) -> TaskRecord
     ensures { λ r. ⌜ r ≡ recordOf (now (rows .entry)) (now (tasks .entry)) row ⌝ }
 {
-    let task = row_field(rows, row, 0);
+    let task = row_field(rows, row, arrays::TASK);
     TaskRecord {
-        status: task_field(tasks, task, 0),
+        status: task_field(tasks, task, arrays::STATUS),
         rank: row,
     }
 }

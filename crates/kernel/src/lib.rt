@@ -78,9 +78,8 @@ fn run_accepted(plan: &[u8], events: &[u8], state: State, asked: u32, trace: &mu
     requires { ⌜ callVerdict (now plan) (now events) state asked .number ≡ 0 ⌝ }
     ensures { λ r. ⌜ Runs (now (plan .entry)) (now (events .entry)) state asked (now (trace .entry)) (now (trace .exit)) r ⌝ }
 {
-    let schedule = plan_schedule::schedule_of(plan);
-    let rows = schedule.rows;
-    let count = schedule.count;
+    let mut rows = [0u32; plan_schedule::WORDS];
+    let count = plan_schedule::schedule_of(plan, &mut rows);
     let states = state.tasks;
     let mut signals = state.signals;
     let mut tasks = [0u32; apart::FIELDS];

@@ -73,14 +73,14 @@ abbrev pub Fresh : ℕ → List ℕ → List ℕ → ℕ → ℕ → List ℕ �
 Fresh calls rows tasks n t wakes j = (k : ℕ) → k < n → (j ≤ k → has calls k ≡ false) → (t′ : ℕ) → t ≤ t′ → t′ < getD wakes k 0 → RowQuiet rows tasks k t′
 
 module _ (calls : ℕ) (rows tasks : List ℕ) (n t : ℕ) (wakes : List ℕ) (j : ℕ) where
-  pub fresh-none : OthersWake calls rows tasks n t wakes → j ≡ least (has calls) (32 - 0) 0 → Fresh calls rows tasks n t wakes j
+  pub fresh-none : OthersWake calls rows tasks n t wakes → j ≡ least (has calls) 32 0 → Fresh calls rows tasks n t wakes j
   fresh-none others e = λ k h b. others k h (go k b (ltb k j) refl)
     where
       go : (k : ℕ) → (j ≤ k → has calls k ≡ false) → (c : Bool) → ltb k j ≡ c → has calls k ≡ false
-      go k b true f = least-below (has calls) (32 - 0) 0 k (omega arith) (rw (← e) (ltb-true k j f))
+      go k b true f = least-below (has calls) 32 0 k (omega arith) (rw (← e) (ltb-true k j f))
       go k b false f = b (ltb-false k j f)
 
-  pub fresh-more : Fresh calls rows tasks n t wakes j → (x next : ℕ) → ((t′ : ℕ) → t ≤ t′ → t′ < x → RowQuiet rows tasks j t′) → next ≡ least (has calls) (32 - (j + 1)) (j + 1)
+  pub fresh-more : Fresh calls rows tasks n t wakes j → (x next : ℕ) → ((t′ : ℕ) → t ≤ t′ → t′ < x → RowQuiet rows tasks j t′) → next ≡ least (has calls) 32 (j + 1)
       → Fresh calls rows tasks n t (set wakes j x) next
   fresh-more old x next one e = λ k h b t′ l m. go k h b t′ l m (eqb k j) refl (ltb k next) refl
     where
@@ -92,15 +92,15 @@ module _ (calls : ℕ) (rows tasks : List ℕ) (n t : ℕ) (wakes : List ℕ) (j
           let here = rw same at m in
           subst (λ (i : ℕ). RowQuiet rows tasks i t′) (sym same) (one t′ l (omega (arith, here, most)))
       go k h b t′ l m false f true g =
-          old k h (λ o. least-below (has calls) (32 - (j + 1)) (j + 1) k (let apart = eqb-false k j f in omega (arith, o, apart)) (rw (← e) (ltb-true k next g))) t′ l
+          old k h (λ o. least-below (has calls) 32 (j + 1) k (let apart = eqb-false k j f in omega (arith, o, apart)) (rw (← e) (ltb-true k next g))) t′ l
           (rw (getD-set-other wakes j k x 0 (eqb-false k j f)) at m)
       go k h b t′ l m false f false g = old k h (λ o. b (ltb-false k next g)) t′ l (rw (getD-set-other wakes j k x 0 (eqb-false k j f)) at m)
 
   pub fresh-done : n ≤ j → Fresh calls rows tasks n t wakes j → Wakes rows tasks n t wakes
   fresh-done h fresh = λ k b. fresh k b (λ o. absurd (omega (arith, h, b, o)))
 
-pub next-after : (calls j next : ℕ) → next ≡ least (has calls) (32 - (j + 1)) (j + 1) → j < next
-next-after calls j next e = let from = least-from (has calls) (32 - (j + 1)) (j + 1) in omega (arith, e, from)
+pub next-after : (calls j next : ℕ) → next ≡ least (has calls) 32 (j + 1) → j < next
+next-after calls j next e = let from = least-from (has calls) 32 (j + 1) in omega (arith, e, from)
 
 -- ---- ticks that are passed over leave the instants
 pub wakes-lowered : (rows : List ℕ) (count n t : ℕ) (tasks wakes : List ℕ) → Wakes rows tasks count t wakes → Wakes rows (lowered rows count n tasks) count (t + n) wakes

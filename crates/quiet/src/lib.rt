@@ -64,18 +64,18 @@ fn next_due(t: u32, offset: u32, period: u32) -> u32
 fn row_wake(rows: &[u32], row: u32, tasks: &[u32], t: u32) -> u32
     ensures { λ r. ⌜ ((t′ : ℕ) → t ≤ t′ → t′ < r → RowQuiet (now (rows .entry)) (now (tasks .entry)) row t′) ⌝ }
 {
-    let task = row_field(rows, row, 0);
-    let period = row_field(rows, row, 1);
-    let deadline = row_field(rows, row, 2);
-    let status = task_field(tasks, task, 0);
+    let task = row_field(rows, row, arrays::TASK);
+    let period = row_field(rows, row, arrays::PERIOD);
+    let deadline = row_field(rows, row, arrays::DEADLINE);
+    let status = task_field(tasks, task, arrays::STATUS);
     if (status == arrays::READY) | (deadline == 0) {
         if period == 0 {
             return NEVER;
         }
-        return next_due(t, row_field(rows, row, 4), period);
+        return next_due(t, row_field(rows, row, arrays::OFFSET), period);
     }
     if (status == arrays::ACTIVE) | (status == arrays::FINISHED) {
-        return sum(task_field(tasks, task, 2), deadline);
+        return sum(task_field(tasks, task, arrays::RELEASE), deadline);
     }
     NEVER
 }
@@ -104,7 +104,7 @@ pub fn refresh(
     calls: u32,
     wakes: &mut [u32; TASKS],
 )
-    requires { ⌜ OthersWake calls (now rows) (now tasks) count t (now wakes) ⌝ }
+    requires { ⌜ (count ≤ maxTasks) × OthersWake calls (now rows) (now tasks) count t (now wakes) ⌝ }
     ensures { λ r. ⌜ Wakes (now (rows .entry)) (now (tasks .entry)) count t (now (wakes .exit)) ⌝ }
 {
     let mut j = turns::next(calls, 0);
@@ -195,7 +195,10 @@ fn rows_of(rows: &[u32], count: u32, tasks: u64) -> u32
     let mut all: u32 = 0;
     let mut j: u32 = 0;
     while j < count {
-        let bit = bits_if(marks::is_marked(tasks, row_field(rows, j, 0)), 1u32 << j);
+        let bit = bits_if(
+            marks::is_marked(tasks, row_field(rows, j, arrays::TASK)),
+            1u32 << j,
+        );
         all = all | bit;
         j += 1;
     }
@@ -285,8 +288,8 @@ fn active_row(rows: &[u32], count: u32, tasks: &[u32]) -> u32
 {
     let mut j: u32 = 0;
     while j < count {
-        let task = row_field(rows, j, 0);
-        if task_field(tasks, task, 0) == arrays::ACTIVE {
+        let task = row_field(rows, j, arrays::TASK);
+        if task_field(tasks, task, arrays::STATUS) == arrays::ACTIVE {
             return j;
         }
         j += 1;
@@ -317,12 +320,12 @@ pub fn pass(
     if count <= row {
         return most;
     }
-    let task = row_field(rows, row, 0);
-    let rest = task_field(tasks, task, 1);
+    let task = row_field(rows, row, arrays::TASK);
+    let rest = task_field(tasks, task, arrays::REMAINING);
     let ticks = least(most, less(rest, 1));
     if ticks == 0 {
         return 0;
     }
-    arrays::put(tasks, task as usize * 4 + 1, less(rest, ticks));
+    arrays::put(tasks, task as usize * arrays::FIELDS + 1, less(rest, ticks));
     ticks
 }

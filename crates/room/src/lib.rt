@@ -21,11 +21,11 @@ use arrays::put;
 use arrays::row_field;
 use arrays::task_field;
 use step::Clock;
-use step_deadlines::reset_task;
 use step_releases::Instant;
 use words::word;
+use writes::reset_task;
 
-const FIELDS: usize = limits::TASKS as usize * 4;
+const FIELDS: usize = limits::TASKS as usize * arrays::FIELDS;
 
 // Twice the most records of step 1: the part of the bound that is the same for every tick of a plan.
 pub fn most_entries(rows: &[u32], count: u32) -> usize
@@ -36,7 +36,7 @@ pub fn most_entries(rows: &[u32], count: u32) -> usize
     let mut sum: usize = 0;
     let mut j: u32 = 0;
     while j < count {
-        let outputs = row_field(rows, j, 8);
+        let outputs = row_field(rows, j, arrays::OUTPUT_COUNT);
         sum = sum + (outputs as usize + 1);
         j += 1;
     }
@@ -60,15 +60,15 @@ fn count_lapse(rows: &[u32], row: u32, t: u32, tasks: &mut [u32]) -> usize
     ensures { λ r. ⌜ Counts (lapse t (now (rows .entry)) row) (now (tasks .entry)) (now (tasks .exit)) r ⌝ }
     ensures small { λ r. ⌜ r ≤ 2 ^ 32 ⌝ }
 {
-    let task = row_field(rows, row, 0);
-    let deadline = row_field(rows, row, 2);
-    let release = task_field(tasks, task, 2);
-    let status = task_field(tasks, task, 0);
+    let task = row_field(rows, row, arrays::TASK);
+    let deadline = row_field(rows, row, arrays::DEADLINE);
+    let release = task_field(tasks, task, arrays::RELEASE);
+    let status = task_field(tasks, task, arrays::STATUS);
     let end = release as u64 + deadline as u64;
     if !(deadline == 0) & (t as u64 == end) {
         if status == arrays::FINISHED {
             reset_task(tasks, task, arrays::READY);
-            return row_field(rows, row, 8) as usize;
+            return row_field(rows, row, arrays::OUTPUT_COUNT) as usize;
         }
         if status == arrays::ACTIVE {
             reset_task(tasks, task, arrays::ERROR);
@@ -121,12 +121,12 @@ fn count_requests(events: &[u8], from: u32, to: u32, task: u32) -> u32
 fn count_asked(rows: &[u32], row: u32, events: &[u8], moment: Instant) -> u32
     ensures { λ r. ⌜ r ≡ askedOf (moment .t) (now (rows .entry)) (between (wordsOf (now (events .entry))) (moment .first) (moment .last)) row ⌝ }
 {
-    let task = row_field(rows, row, 0);
-    let period = row_field(rows, row, 1);
+    let task = row_field(rows, row, arrays::TASK);
+    let period = row_field(rows, row, arrays::PERIOD);
     if period == 0 {
         return count_requests(events, moment.first, moment.last, task);
     }
-    let offset = row_field(rows, row, 4);
+    let offset = row_field(rows, row, arrays::OFFSET);
     if moment.t < offset {
         return 0;
     }
@@ -141,7 +141,7 @@ fn count_asked(rows: &[u32], row: u32, events: &[u8], moment: Instant) -> u32
 fn start_task(tasks: &mut [u32], task: u32, execution: u32, t: u32)
     ensures { λ _. ⌜ now (tasks .exit) ≡ withField (withField (withField (now (tasks .entry)) task 0 active) task 1 execution) task 2 t ⌝ }
 {
-    let at = task as usize * 4;
+    let at = task as usize * arrays::FIELDS;
     put(tasks, at, arrays::ACTIVE);
     put(tasks, at + 1, execution);
     put(tasks, at + 2, t);
@@ -153,14 +153,19 @@ fn count_grant(rows: &[u32], row: u32, events: &[u8], moment: Instant, tasks: &m
     ensures { λ r. ⌜ Counts (grant (moment .t) (now (rows .entry)) (between (wordsOf (now (events .entry))) (moment .first) (moment .last)) row) (now (tasks .entry)) (now (tasks .exit)) r ⌝ }
     ensures small { λ r. ⌜ r ≤ 2 ^ 32 ⌝ }
 {
-    let task = row_field(rows, row, 0);
-    let period = row_field(rows, row, 1);
-    let deadline = row_field(rows, row, 2);
-    let status = task_field(tasks, task, 0);
+    let task = row_field(rows, row, arrays::TASK);
+    let period = row_field(rows, row, arrays::PERIOD);
+    let deadline = row_field(rows, row, arrays::DEADLINE);
+    let status = task_field(tasks, task, arrays::STATUS);
     let asked = count_asked(rows, row, events, moment) as usize;
     if status == arrays::READY {
         if asked != 0 {
-            start_task(tasks, task, row_field(rows, row, 3), moment.t);
+            start_task(
+                tasks,
+                task,
+                row_field(rows, row, arrays::EXECUTION),
+                moment.t,
+            );
             return asked;
         }
         return 0;
@@ -202,8 +207,8 @@ fn active_row(rows: &[u32], count: u32, tasks: &[u32]) -> u32
 {
     let mut j: u32 = 0;
     while j < count {
-        let task = row_field(rows, j, 0);
-        if task_field(tasks, task, 0) == arrays::ACTIVE {
+        let task = row_field(rows, j, arrays::TASK);
+        if task_field(tasks, task, arrays::STATUS) == arrays::ACTIVE {
             return j;
         }
         j += 1;
@@ -218,11 +223,11 @@ fn count_writes(rows: &[u32], count: u32, tasks: &[u32]) -> usize
 {
     let row = active_row(rows, count, tasks);
     if row < count {
-        let task = row_field(rows, row, 0);
-        let deadline = row_field(rows, row, 2);
-        let remaining = task_field(tasks, task, 1);
+        let task = row_field(rows, row, arrays::TASK);
+        let deadline = row_field(rows, row, arrays::DEADLINE);
+        let remaining = task_field(tasks, task, arrays::REMAINING);
         if (remaining <= 1) & (deadline == 0) {
-            return row_field(rows, row, 8) as usize;
+            return row_field(rows, row, arrays::OUTPUT_COUNT) as usize;
         }
     }
     0

@@ -1,7 +1,7 @@
 -- What the loop over the turns of a run keeps, and what it ends with.
 use Prim.Native.Nat.{ℕ, zero, suc, _+_, _-_, _*_, _<_, _≤_, _^_}
 use mathlib.Core.Path.{_≡_, refl, sym, ap, _∙_}
-use mathlib.Core.Bool.{Bool, true, false, cond, not}
+use mathlib.Core.Bool.{true, false}
 use mathlib.Core.List.{List}
 use native.Mathlib.Nat.{sub-zero}
 use native.Mathlib.Omega.{arith}
@@ -141,11 +141,6 @@ module _ (g : Given) (asked : ℕ) (a₀ : Arrays) (trace₀ : List ℕ) (clock 
           room = omega arith;
         }
 
--- each turn brings the end nearer: the ticks left are counted twice, and once more where a look comes next; a tick comes after it
-abbrev pub toGo : ℕ → ℕ → Bool → ℕ
-toGo asked done look = (asked - done) * 2 + cond look 1 0
-
-pub nearer : (asked done ticks : ℕ) (look : Bool) → done < asked → ticks ≤ asked - done → (look ≡ false → 0 < ticks)
-    → toGo asked (done + ticks) (not look) < toGo asked done look
-nearer asked done ticks true h m p = omega arith
-nearer asked done ticks false h m p = let q = p refl in omega arith
+-- each turn brings the end nearer
+pub nearer : (asked done ticks : ℕ) → done < asked → 0 < ticks → asked - (done + ticks) < asked - done
+nearer asked done ticks h p = omega arith

@@ -34,6 +34,11 @@ module _ (g : Given) (t place : ℕ) (a : Arrays) (calls last : ℕ) (wakes : Li
   turns-wake clock next a′ old new et ep u = rw (u .arrays, u .tick, et, ep) (others-wake calls g t place a (w .distinct) rests wakes (w .instants))
 
 -- ---- ticks that were passed over
+-- where there were none, the tasks are as they were
+pub rest-none : (rows : List ℕ) (count n : ℕ) (before after : List ℕ) → after ≡ lowered rows count n before → n ≡ 0 → after ≡ before
+unfolding lowered
+rest-none rows count n before after h e = h ∙ ap (λ (k : ℕ). lowered rows count k before) e
+
 sofar-later : (n : ℕ) (w₀ w : Went) (done : ℕ) (trace₀ now : List ℕ) (at : ℕ) → Sofar w₀ (later n w) done trace₀ now at → Sofar w₀ w (done + n) trace₀ now at
 unfolding later
 sofar-later zero w₀ w done trace₀ now at s = rw (add-zero done) s
@@ -72,6 +77,17 @@ module _ (g : Given) (left : ℕ) (clock : Clock) (a : Arrays) (old : List ℕ) 
         sofar = λ w₀ done trace₀ s. rw (u .arrays, u .trace, u .word, u .tick, u .place, one)
             (sofar-more w₀ g (clock .tick) (clock .place) a _ done trace₀ old (clock .at) (rw (went-more g (length old) (clock .at) left (clock .tick) (clock .place) a h) at s));
       }
+
+  -- no tick is passed over
+  pub turned-none : Turned g left clock a old (record { clock = clock; ticks = 0; full = false }) a old
+  turned-none = record {
+    most = omega arith;
+    tick = omega arith;
+    place = inside;
+    near = omega arith;
+    room = fits;
+    sofar = λ w₀ done trace₀ s. rw (add-zero done, sub-zero left) s;
+  }
 
   -- ticks are passed over
   pub turned-rest : (n : ℕ) (tasks : List ℕ) → Passed (g .rows) (g .count) (g .events) (g .records) (clock .place) (clock .tick) left n (a .tasks) tasks

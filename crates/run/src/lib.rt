@@ -3,15 +3,16 @@
 ghost use mathlib.Core.Path.{_≡_};
 ghost use mathlib.Core.Bool.{false, cond};
 ghost use mathlib.Core.List.{List};
-ghost use Prim.Native.Nat.{ℕ, suc, _+_, _*_, _<_, _≤_, _^_};
+ghost use Prim.Native.Nat.{ℕ, suc, _+_, _-_, _*_, _<_, _≤_, _^_};
 ghost use lib.ListN.{length};
 ghost use Rattle.limits.specs.Limits.{maxTasks};
+ghost use Rattle.words.specs.Words.{wordsOf};
 ghost use Rattle.events.specs.Events.{eventCount};
 ghost use Rattle.arrays.specs.Arrays.{Sized};
-ghost use Rattle.steps.specs.Flat.{WholeBodies};
+ghost use Rattle.steps.specs.Flat.{endFrom, between, WholeBodies};
 ghost use Rattle.step.specs.Step.{given, Ready};
 ghost use Rattle.room.specs.Room.{rowsMost};
-ghost use Rattle.quiet.specs.Quiet.{Distinct, Wakes};
+ghost use Rattle.quiet.specs.Quiet.{Distinct, Wakes, OthersLater};
 ghost use Rattle.run.specs.Run.{Watched, Asked, Ends, Turned, runFlat};
 use step::Clock;
 
@@ -24,14 +25,16 @@ pub struct Ran {
     pub full: bool,
 }
 
-// A tick is run if all its records fit. Only rows whose instant has come and rows that a release event asks for have their turn;
-// their instants are then found anew.
+// A tick is run if all its records fit. Its events stand from the clock's place up to `last`, and only the rows of `calls` have
+// their turn; their instants are then found anew.
 fn tick_once(
     plan: &[u8],
     rows: &[u32],
     count: u32,
     events: &[u8],
     clock: Clock,
+    last: u32,
+    calls: u32,
     most: usize,
     wakes: &mut [u32; TASKS],
     signals: &mut [u32],
@@ -46,18 +49,14 @@ fn tick_once(
     requires { ⌜ clock .at ≤ length (now trace) ⌝ }
     requires { ⌜ Watched (now rows) count (now tasks) (clock .tick) (now wakes) ⌝ }
     requires { ⌜ WholeBodies (now plan) (now rows) count ⌝ }
+    requires { ⌜ last ≡ endFrom (wordsOf (now events)) (clock .tick) (eventCount (now events) - clock .place) (clock .place) ⌝ }
+    requires { ⌜ OthersLater calls (now rows) count (between (wordsOf (now events)) (clock .place) last) (clock .tick) (now wakes) ⌝ }
     ensures { λ r. ⌜ ((left : ℕ) → Turned (given (now (plan .entry)) (now (rows .entry)) count (now (events .entry))) (suc left) clock
         (record { signals = now (signals .entry); tasks = now (tasks .entry); latched = now (latched .entry); held = now (held .entry) }) (now (trace .entry)) r
         (record { signals = now (signals .exit); tasks = now (tasks .exit); latched = now (latched .exit); held = now (held .exit) }) (now (trace .exit))) ⌝ }
     ensures moves { λ r. ⌜ r .ticks ≡ cond (r .full) 0 1 ⌝ }
     ensures watched { λ r. ⌜ Watched (now (rows .entry)) count (now (tasks .exit)) (r .clock .tick) (now (wakes .exit)) ⌝ }
 {
-    let last = step_releases::end_of(
-        events,
-        clock.tick,
-        clock.place,
-        (events.len() / limits::EVENT_SIZE) as u32,
-    );
     let fits = room::tick_fits(rows, count, events, clock, last, most, tasks, trace.len());
     if !fits {
         return Ran {
@@ -66,7 +65,6 @@ fn tick_once(
             full: true,
         };
     }
-    let calls = quiet::calls(rows, count, events, clock.place, last, wakes, clock.tick);
     let next = step::step(
         plan,
         rows,
@@ -89,12 +87,15 @@ fn tick_once(
     }
 }
 
-// As many ticks as can be are passed over, at most `left`; it may be none.
+// As many ticks as can be are passed over, at most `left`; it may be none. It looks for them only where the next tick calls no row
+// and no event comes: elsewhere there are none, and a look costs time.
 fn rest(
     rows: &[u32],
     count: u32,
     events: &[u8],
     clock: Clock,
+    last: u32,
+    calls: u32,
     left: u32,
     wakes: &[u32; TASKS],
     tasks: &mut [u32],
@@ -105,7 +106,15 @@ fn rest(
         (record { signals = signals; tasks = now (tasks .entry); latched = latched; held = held }) trace r
         (record { signals = signals; tasks = now (tasks .exit); latched = latched; held = held }) trace) ⌝ }
     ensures wakes { λ r. ⌜ Wakes (now (rows .entry)) (now (tasks .exit)) count (r .clock .tick) (now (wakes .entry)) ⌝ }
+    ensures still { λ r. ⌜ (r .ticks ≡ 0 → now (tasks .exit) ≡ now (tasks .entry)) ⌝ }
 {
+    if (calls != 0) | (last != clock.place) {
+        return Ran {
+            clock,
+            ticks: 0,
+            full: false,
+        };
+    }
     let ticks = quiet::pass(
         rows,
         count,
@@ -127,9 +136,9 @@ fn rest(
     }
 }
 
-// One turn of a run: a look for ticks to pass over, or a tick.
+// One turn of a run: ticks that are passed over, or else a tick. In a tick only rows whose instant has come and rows that a
+// release event asks for have their turn.
 fn turn(
-    look: bool,
     plan: &[u8],
     rows: &[u32],
     count: u32,
@@ -153,11 +162,19 @@ fn turn(
     ensures { λ r. ⌜ Turned (given (now (plan .entry)) (now (rows .entry)) count (now (events .entry))) left clock
         (record { signals = now (signals .entry); tasks = now (tasks .entry); latched = now (latched .entry); held = now (held .entry) }) (now (trace .entry)) r
         (record { signals = now (signals .exit); tasks = now (tasks .exit); latched = now (latched .exit); held = now (held .exit) }) (now (trace .exit)) ⌝ }
-    ensures moves { λ r. ⌜ (look ≡ false → r .full ≡ false → 0 < r .ticks) ⌝ }
+    ensures moves { λ r. ⌜ (r .full ≡ false → 0 < r .ticks) ⌝ }
     ensures watched { λ r. ⌜ Watched (now (rows .entry)) count (now (tasks .exit)) (r .clock .tick) (now (wakes .exit)) ⌝ }
 {
-    if look {
-        return rest(rows, count, events, clock, left, wakes, tasks);
+    let last = step_events::end_of(
+        events,
+        clock.tick,
+        clock.place,
+        (events.len() / limits::EVENT_SIZE) as u32,
+    );
+    let calls = quiet::calls(rows, count, events, clock.place, last, wakes, clock.tick);
+    let one = rest(rows, count, events, clock, last, calls, left, wakes, tasks);
+    if one.ticks != 0 {
+        return one;
     }
     tick_once(
         plan,
@@ -165,6 +182,8 @@ fn turn(
         count,
         events,
         clock,
+        last,
+        calls,
         most,
         wakes,
         signals,
@@ -175,8 +194,7 @@ fn turn(
     )
 }
 
-// So many ticks, one after the other, up to the first whose records do not all fit. After each tick it looks for ticks that can be
-// passed over: a look costs less than a tick does.
+// So many ticks, one after the other, up to the first whose records do not all fit.
 pub fn run_ticks(
     plan: &[u8],
     rows: &[u32],
@@ -202,10 +220,8 @@ pub fn run_ticks(
     let mut wakes = quiet::no_wakes(count);
     let mut now = clock;
     let mut done: u32 = 0;
-    let mut look = false;
     while done < asked {
         let one = turn(
-            look,
             plan,
             rows,
             count,
@@ -229,7 +245,6 @@ pub fn run_ticks(
                 full: true,
             };
         }
-        look = !look;
         now = next;
         done = total;
     }

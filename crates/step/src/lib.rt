@@ -44,7 +44,7 @@ pub fn step(
     let t = clock.tick;
     let first = clock.place;
     let moment = Instant { t, first, last };
-    step_releases::set_signals(events, first, last, signals);
+    step_events::set_signals(events, first, last, signals);
     let written = deadlines(rows, count, t, calls, held, signals, tasks, trace, clock.at);
     let released = step_releases::releases(
         rows,

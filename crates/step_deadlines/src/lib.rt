@@ -1,68 +1,15 @@
-// Document 01, 'One tick', step 1: deadlines, over the lent arrays. And the writing of held outputs, which step 3 does too.
+// Document 01, 'One tick', step 1: deadlines, over the lent arrays.
 ghost use mathlib.Core.Path.{_≡_};
 ghost use mathlib.Core.List.{List};
-ghost use Prim.Native.Nat.{ℕ, _+_, _*_, _<_, _≤_, _^_};
-ghost use lib.ListN.{length};
+ghost use Prim.Native.Nat.{ℕ, _+_, _<_, _≤_, _^_};
 ghost use Rattle.limits.specs.Limits.{maxTasks};
-ghost use Rattle.trace.specs.Trace.{over};
-ghost use Rattle.tick.specs.Tick.{writeAll};
 ghost use Rattle.arrays.specs.Arrays.{Does};
-ghost use Rattle.steps.specs.Flat.{taskOfRow, reset, rowWrites, writeEntries, endsNow, lapse, eachRow, called};
-ghost use Rattle.step_deadlines.specs.Writes.{Wrote};
-use arrays::get;
-use arrays::put;
+ghost use Rattle.steps.specs.Flat.{endsNow, lapse, eachRow, called};
 use arrays::row_field;
 use arrays::task_field;
 use trace::Entry;
-
-// The task of a row writes its held outputs to its signals, with a record each; the word at which the records end.
-pub fn write_row(
-    rows: &[u32],
-    row: u32,
-    t: u32,
-    held: &[u32],
-    signals: &mut [u32],
-    trace: &mut [u32],
-    from: usize,
-) -> usize
-    requires { ⌜ from < 2 ^ 63 ⌝ }
-    ensures { λ r. ⌜ Wrote (now (signals .entry)) (now (signals .exit)) (now (trace .entry)) (now (trace .exit)) from r t (taskOfRow (now (rows .entry)) row) (rowWrites (now (rows .entry)) row (now (held .entry))) ⌝ }
-    ensures near { λ r. ⌜ r ≤ from + 2 ^ 35 ⌝ }
-{
-    let task = row_field(rows, row, 0);
-    let count = row_field(rows, row, 8);
-    let mut at = from;
-    let mut p: u32 = 0;
-    while p < count {
-        let signal = get(rows, row as usize * 32 + (24 + p as usize));
-        let value = get(held, task as usize * 8 + p as usize);
-        put(signals, signal as usize, value);
-        trace::put(
-            trace,
-            at,
-            Entry {
-                instant: t,
-                kind: 2,
-                task,
-                signal,
-                value,
-            },
-        );
-        at = at + 5;
-        p += 1;
-    }
-    at
-}
-
-// A task becomes READY or ERROR: remaining ticks and release instant are 0, the machine state stays.
-pub fn reset_task(tasks: &mut [u32], task: u32, status: u32)
-    ensures { λ _. ⌜ now (tasks .exit) ≡ reset status task (now (tasks .entry)) ⌝ }
-{
-    let at = task as usize * 4;
-    put(tasks, at, status);
-    put(tasks, at + 1, 0);
-    put(tasks, at + 2, 0);
-}
+use writes::reset_task;
+use writes::write_row;
 
 // Whether a deadline above 0, counted from a release, is now. The sum is taken in 64 bits and cannot wrap.
 fn ends_now(t: u32, release: u32, deadline: u32) -> bool
@@ -88,10 +35,10 @@ fn lapse_row(
         (lapse t (now (rows .entry)) row (record { signals = now (signals .entry); tasks = now (tasks .entry); latched = latched; held = now (held .entry) }))) ⌝ }
     ensures near { λ r. ⌜ r ≤ from + 2 ^ 35 ⌝ }
 {
-    let task = row_field(rows, row, 0);
-    let deadline = row_field(rows, row, 2);
-    let release = task_field(tasks, task, 2);
-    let status = task_field(tasks, task, 0);
+    let task = row_field(rows, row, arrays::TASK);
+    let deadline = row_field(rows, row, arrays::DEADLINE);
+    let release = task_field(tasks, task, arrays::RELEASE);
+    let status = task_field(tasks, task, arrays::STATUS);
     if ends_now(t, release, deadline) {
         if status == arrays::FINISHED {
             let at = write_row(rows, row, t, held, signals, trace, from);

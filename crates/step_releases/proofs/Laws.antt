@@ -1,4 +1,4 @@
--- The events of a tick and the ports of a task, one at a time.
+-- The events that ask for a task and the ports of a task, one at a time; what the turn of a row comes to.
 use Prim.Native.Nat.{ℕ, zero, suc, _+_, _-_, _*_, _<_, _≤_}
 use mathlib.Core.Path.{_≡_, refl, ap, _∙_}
 use mathlib.Core.Bool.{Bool, true, false, cond, not, _&&_, _||_, true≢false, false≢true}
@@ -9,32 +9,14 @@ use lib.Dec.{eqb, eqb·suc-zero}
 use borrow.Author.Tests.{eq-eqb, ne-eqb, eqb-true, eqb-false}
 use Rattle.lists.specs.Lists.{tab}
 use Rattle.lists.proofs.Laws.{more, done, tab-more, tab-done}
-use Rattle.events.specs.Events.{Event, eventOf}
+use Rattle.events.specs.Events.{Event}
 use Rattle.state.specs.declared.Status.the-variants.{READY}
 use Rattle.arrays.specs.Arrays.{field, rowField}
 use Rattle.tick.specs.Turns.{requests, Call, released, overrun, ignored, periodicCall, eventCall}
-use Rattle.tick.specs.Tick.{setNow}
-use Rattle.steps.specs.Flat.{statusOf, endFrom, latch, latchedAt, taskOfRow, isDue, callOfRow}
-use Rattle.step_releases.specs.Asked.{setOne, askedOf, closed}
-
-module _ (ws : List ℕ) (t n p : ℕ) where
-  pub end-more : p < n → endFrom ws t (n - p) p ≡ cond (eqb (eventOf ws p .instant) t) (endFrom ws t (n - (p + 1)) (p + 1)) p
-  unfolding endFrom
-  end-more h = rw (more n p h)
-
-  pub end-done : n ≤ p → endFrom ws t (n - p) p ≡ p
-  unfolding endFrom
-  end-done h = rw (done n p h)
+use Rattle.steps.specs.Flat.{statusOf, latch, latchedAt, taskOfRow, isDue, callOfRow}
+use Rattle.step_releases.specs.Asked.{askedOf, closed}
 
 module _ (f : ℕ → Event) (n p : ℕ) where
-  pub set-more : (signals : List ℕ) → p < n → setNow (tab f p (n - p)) signals ≡ setNow (tab f (p + 1) (n - (p + 1))) (setOne (f p) signals)
-  unfolding setNow
-  set-more signals h = rw (tab-more f n p h)
-
-  pub set-done : (signals : List ℕ) → n ≤ p → setNow (tab f p (n - p)) signals ≡ signals
-  unfolding setNow
-  set-done signals h = rw (tab-done f n p h)
-
   pub asks-more : (i k : ℕ) → p < n
       → k + requests i (tab f p (n - p)) ≡ k + cond (eqb (f p .kind) 1 && eqb (f p .target) i) 1 0 + requests i (tab f (p + 1) (n - (p + 1)))
   unfolding requests

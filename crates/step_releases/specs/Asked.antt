@@ -1,9 +1,9 @@
--- What the parts of steps 0 and 2 hand each other.
+-- What the parts of step 2 hand each other.
 use Prim.Native.Nat.{ℕ, _+_, _*_}
 use mathlib.Core.Path.{_≡_}
 use mathlib.Core.Bool.{Bool, cond, not, _&&_, _||_}
 use mathlib.Core.List.{List}
-use lib.ListN.{set, replicate}
+use lib.ListN.{replicate}
 use lib.Dec.{eqb}
 use Rattle.limits.specs.Limits.{maxPorts}
 use Rattle.events.specs.Events.{Event}
@@ -12,10 +12,6 @@ use Rattle.trace.specs.declared.Entry.{Entry}
 use Rattle.arrays.specs.Arrays.{ready, active, withField, rowField}
 use Rattle.tick.specs.Turns.{requests}
 use Rattle.steps.specs.Flat.{taskOfRow, latch, isDue}
-
--- one event takes effect if it sets a signal
-abbrev pub setOne : Event → List ℕ → List ℕ
-setOne e signals = cond (eqb (e .kind) 2) (set signals (e .target) (e .value)) signals
 
 -- how often the task of row j is asked to start: by the release events of the tick, or once where it is periodic and due
 abbrev pub askedOf : ℕ → List ℕ → List Event → ℕ → ℕ

@@ -1,4 +1,4 @@
-// Document 01, 'One tick', steps 0 and 2 over the lent arrays: the events of a tick, and releases.
+// Document 01, 'One tick', step 2 over the lent arrays: releases.
 ghost use mathlib.Core.Path.{_≡_};
 ghost use mathlib.Core.List.{List};
 ghost use mathlib.Core.Bool.{cond};
@@ -7,56 +7,17 @@ ghost use lib.Dec.{eqb};
 ghost use lib.ListN.{length, replicate};
 ghost use Rattle.limits.specs.Limits.{maxTasks, maxPorts};
 ghost use Rattle.words.specs.Words.{wordsOf};
-ghost use Rattle.events.specs.Events.{eventOf};
 ghost use Rattle.trace.specs.Trace.{over, entry, ignoredKind};
-ghost use Rattle.tick.specs.Turns.{requests};
-ghost use Rattle.tick.specs.Tick.{setNow};
+ghost use Rattle.tick.specs.Turns.{requests, released};
 ghost use Rattle.arrays.specs.Arrays.{Does, rowField};
-ghost use Rattle.steps.specs.Flat.{endFrom, between, taskOfRow, latchedAt, latch, isDue, grant, eachRow, called};
-ghost use Rattle.step_releases.specs.Asked.{setOne, askedOf, closed, Ignored, Started};
+ghost use Rattle.steps.specs.Flat.{between, taskOfRow, latchedAt, latch, isDue, answerRow, grant, eachRow, called};
+ghost use Rattle.step_releases.specs.Asked.{askedOf, closed, Ignored, Started};
 use arrays::get;
 use arrays::put;
 use arrays::row_field;
 use arrays::task_field;
 use trace::Entry;
 use words::word;
-
-// The place after the last event of instant t, where those of t start at a place.
-pub fn end_of(events: &[u8], t: u32, place: u32, count: u32) -> u32
-    requires { ⌜ (place ≤ count) × (count < 2 ^ 30) ⌝ }
-    ensures { λ r. ⌜ r ≡ endFrom (wordsOf (now (events .entry))) t (count - place) place ⌝ }
-    ensures bounds { λ r. ⌜ (place ≤ r) × (r ≤ count) ⌝ }
-{
-    let mut p = place;
-    while p < count {
-        if word(events, p as usize * 4) != t {
-            return p;
-        }
-        p += 1;
-    }
-    p
-}
-
-// One event takes effect if it sets a signal.
-fn set_signal(events: &[u8], p: u32, signals: &mut [u32])
-    ensures { λ _. ⌜ now (signals .exit) ≡ setOne (eventOf (wordsOf (now (events .entry))) p) (now (signals .entry)) ⌝ }
-{
-    let at = p as usize * 4;
-    if word(events, at + 1) == 2 {
-        put(signals, word(events, at + 2) as usize, word(events, at + 3));
-    }
-}
-
-// Step 0: the set events from a place to another, in list order.
-pub fn set_signals(events: &[u8], from: u32, to: u32, signals: &mut [u32])
-    ensures { λ _. ⌜ now (signals .exit) ≡ setNow (between (wordsOf (now (events .entry))) from to) (now (signals .entry)) ⌝ }
-{
-    let mut p = from;
-    while p < to {
-        set_signal(events, p, signals);
-        p += 1;
-    }
-}
 
 // How many of the events from a place to another release a task.
 fn requests_of(events: &[u8], from: u32, to: u32, task: u32) -> u32
@@ -85,11 +46,11 @@ fn one_if(b: bool) -> u32
 fn latch_row(rows: &[u32], row: u32, signals: &[u32], latched: &mut [u32])
     ensures { λ _. ⌜ now (latched .exit) ≡ latch (now (rows .entry)) row (now (signals .entry)) maxPorts 0 (now (latched .entry)) ⌝ }
 {
-    let task = row_field(rows, row, 0);
+    let task = row_field(rows, row, arrays::TASK);
     let mut p: u32 = 0;
     while p < limits::PORTS {
         let value = latched_at(rows, row, signals, p);
-        put(latched, task as usize * 8 + p as usize, value);
+        put(latched, task as usize * arrays::PORTS + p as usize, value);
         p += 1;
     }
 }
@@ -97,8 +58,11 @@ fn latch_row(rows: &[u32], row: u32, signals: &[u32], latched: &mut [u32])
 fn latched_at(rows: &[u32], row: u32, signals: &[u32], p: u32) -> u32
     ensures { λ r. ⌜ r ≡ latchedAt (now (rows .entry)) row (now (signals .entry)) p ⌝ }
 {
-    if p < row_field(rows, row, 7) {
-        let signal = get(rows, row as usize * 32 + (16 + p as usize));
+    if p < row_field(rows, row, arrays::INPUT_COUNT) {
+        let signal = get(
+            rows,
+            row as usize * arrays::WIDTH + (arrays::INPUTS + p as usize),
+        );
         get(signals, signal as usize)
     } else {
         0
@@ -127,12 +91,12 @@ fn is_due(t: u32, offset: u32, period: u32) -> bool
 fn asked_of(rows: &[u32], row: u32, events: &[u8], moment: Instant) -> u32
     ensures { λ r. ⌜ r ≡ askedOf (moment .t) (now (rows .entry)) (between (wordsOf (now (events .entry))) (moment .first) (moment .last)) row ⌝ }
 {
-    let task = row_field(rows, row, 0);
-    let period = row_field(rows, row, 1);
+    let task = row_field(rows, row, arrays::TASK);
+    let period = row_field(rows, row, arrays::PERIOD);
     if period == 0 {
         return requests_of(events, moment.first, moment.last, task);
     }
-    let offset = row_field(rows, row, 4);
+    let offset = row_field(rows, row, arrays::OFFSET);
     one_if(is_due(moment.t, offset, period))
 }
 
@@ -172,13 +136,46 @@ fn start_row(
 )
     ensures { λ _. ⌜ Started (now (rows .entry)) row t (now (signals .entry)) (now (tasks .entry)) (now (tasks .exit)) (now (latched .entry)) (now (latched .exit)) ⌝ }
 {
-    let task = row_field(rows, row, 0);
-    let execution = row_field(rows, row, 3);
-    let at = task as usize * 4;
+    let task = row_field(rows, row, arrays::TASK);
+    let execution = row_field(rows, row, arrays::EXECUTION);
+    let at = task as usize * arrays::FIELDS;
     put(tasks, at, arrays::ACTIVE);
     put(tasks, at + 1, execution);
     put(tasks, at + 2, t);
     latch_row(rows, row, signals, latched);
+}
+
+// The task of a row, asked to start so many times, is released, with a record of it; all times but the first are ignored.
+fn release_row(
+    rows: &[u32],
+    row: u32,
+    t: u32,
+    asked: u32,
+    signals: &[u32],
+    tasks: &mut [u32],
+    latched: &mut [u32],
+    trace: &mut [u32],
+    from: usize,
+) -> usize
+    requires { ⌜ (0 < asked) × (from < 2 ^ 62 + 2 ^ 43) ⌝ }
+    ensures { λ r. ⌜ ((held : List ℕ) → Does (record { signals = now (signals .entry); tasks = now (tasks .exit); latched = now (latched .exit); held = held }) (now (trace .entry)) (now (trace .exit)) from r
+        (answerRow t (now (rows .entry)) row (record { signals = now (signals .entry); tasks = now (tasks .entry); latched = now (latched .entry); held = held }) (released (asked - 1)))) ⌝ }
+    ensures near { λ r. ⌜ r ≤ from + 2 ^ 35 ⌝ }
+{
+    let task = row_field(rows, row, arrays::TASK);
+    start_row(rows, row, t, signals, tasks, latched);
+    trace::put(
+        trace,
+        from,
+        Entry {
+            instant: t,
+            kind: 1,
+            task,
+            signal: 0,
+            value: 0,
+        },
+    );
+    ignore(t, task, asked - 1, trace, from + 5)
 }
 
 // Whether nothing comes of a task's turn, whatever is due: it is periodic, and neither READY nor ACTIVE without a deadline.
@@ -206,10 +203,10 @@ fn grant_row(
     ensures near { λ r. ⌜ r ≤ from + 2 ^ 35 ⌝ }
 {
     let t = moment.t;
-    let task = row_field(rows, row, 0);
-    let period = row_field(rows, row, 1);
-    let deadline = row_field(rows, row, 2);
-    let status = task_field(tasks, task, 0);
+    let task = row_field(rows, row, arrays::TASK);
+    let period = row_field(rows, row, arrays::PERIOD);
+    let deadline = row_field(rows, row, arrays::DEADLINE);
+    let status = task_field(tasks, task, arrays::STATUS);
     if is_closed(period, status, deadline) {
         return from;
     }
@@ -218,19 +215,7 @@ fn grant_row(
         return from;
     }
     if status == arrays::READY {
-        start_row(rows, row, t, signals, tasks, latched);
-        trace::put(
-            trace,
-            from,
-            Entry {
-                instant: t,
-                kind: 1,
-                task,
-                signal: 0,
-                value: 0,
-            },
-        );
-        return ignore(t, task, asked - 1, trace, from + 5);
+        return release_row(rows, row, t, asked, signals, tasks, latched, trace, from);
     }
     if period == 0 {
         return ignore(t, task, asked, trace, from);
@@ -246,7 +231,7 @@ fn grant_row(
             value: 0,
         },
     );
-    step_deadlines::reset_task(tasks, task, arrays::ERROR);
+    writes::reset_task(tasks, task, arrays::ERROR);
     from + 5
 }
 

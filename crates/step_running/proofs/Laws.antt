@@ -16,7 +16,7 @@ use Rattle.body.specs.Body.{body, leaves}
 use Rattle.body.specs.declared.Result.{Result}
 use Rattle.arrays.specs.Arrays.{Arrays, Step, Does, ready, finished, field, rowField}
 use Rattle.steps.specs.Flat.{taskOfRow, reset, rowWrites, writeRow, portsOf, withPorts, finishTask, work}
-use Rattle.step_deadlines.specs.Writes.{Wrote}
+use Rattle.writes.specs.Writes.{Wrote}
 use Rattle.step_running.specs.Finish.{Ran, Finished}
 
 -- what holds of n, and of m where n is beyond it, holds of the smaller

@@ -12,8 +12,8 @@ ghost use Rattle.step_running.specs.Finish.{Ran, Finished};
 use arrays::put;
 use arrays::row_field;
 use arrays::task_field;
-use step_deadlines::reset_task;
-use step_deadlines::write_row;
+use writes::reset_task;
+use writes::write_row;
 
 const PORTS: usize = limits::PORTS as usize;
 
@@ -42,7 +42,7 @@ fn finish_task(plan: &[u8], task: u32, tasks: &mut [u32], latched: &[u32], held:
     requires { ⌜ Whole (bodyPart (now plan) task) ⌝ }
     ensures { λ _. ⌜ Finished (wordsOf (now (plan .entry))) task (now (latched .entry)) (now (tasks .entry)) (now (tasks .exit)) (now (held .entry)) (now (held .exit)) ⌝ }
 {
-    let machine = task_field(tasks, task, 3);
+    let machine = task_field(tasks, task, arrays::MACHINE);
     let next = run_ports(
         plan_check::task_part(plan, task),
         task,
@@ -50,7 +50,7 @@ fn finish_task(plan: &[u8], task: u32, tasks: &mut [u32], latched: &[u32], held:
         latched,
         held,
     );
-    let at = task as usize * 4;
+    let at = task as usize * arrays::FIELDS;
     put(tasks, at, arrays::FINISHED);
     put(tasks, at + 1, 0);
     put(tasks, at + 3, next);
@@ -82,11 +82,11 @@ fn work_row(
         (work t (wordsOf (now (plan .entry))) (now (rows .entry)) row (record { signals = now (signals .entry); tasks = now (tasks .entry); latched = now (latched .entry); held = now (held .entry) })) ⌝ }
     ensures near { λ r. ⌜ r ≤ from + 2 ^ 35 ⌝ }
 {
-    let task = row_field(rows, row, 0);
-    let deadline = row_field(rows, row, 2);
-    let rest = one_less(task_field(tasks, task, 1));
+    let task = row_field(rows, row, arrays::TASK);
+    let deadline = row_field(rows, row, arrays::DEADLINE);
+    let rest = one_less(task_field(tasks, task, arrays::REMAINING));
     if rest != 0 {
-        put(tasks, task as usize * 4 + 1, rest);
+        put(tasks, task as usize * arrays::FIELDS + 1, rest);
         return from;
     }
     finish_task(plan, task, tasks, latched, held);

@@ -7,6 +7,7 @@ use mathlib.Core.Path.{_≡_, refl, sym, ap, _∙_, subst}
 use mathlib.Core.Logic.{_⊎_, inl, inr}
 use mathlib.Core.Bool.{Bool, true, false, cond, true≢false}
 use lib.Dec.{eqb}
+use borrow.Author.Tests.{eqb-true, eqb-false}
 use lib.Pow.{shr-shr, shr-lt}
 use lib.Count.{trailingZeros, under}
 use Rattle.marks.specs.Marks.{has}
@@ -120,35 +121,36 @@ module _ (w from : ℕ) where
   has-from : (i : ℕ) → from ≤ i → has w i ≡ has (w / 2 ^ from) (i - from)
   has-from i h = ap (has w) (omega (arith, h)) ∙ sym (has-shifted w from (i - from))
 
-  -- the word has none
-  pub next-none : from ≤ 32 → w / 2 ^ from ≡ 0 → least (has w) (32 - from) from ≡ 32
-  next-none l e = least-none (has w) (32 - from) from (λ i h. has-from i h ∙ ap (λ (x : ℕ). has x (i - from)) e ∙ has-zero (i - from)) ∙ omega (arith, l)
-
-  -- or the first is so many places further as the shifted word has zeros
-  pub next-some : w < 2 ^ 32 → (w / 2 ^ from ≡ 0 → ⊥) → least (has w) (32 - from) from ≡ from + trailingZeros 32 (w / 2 ^ from)
-  next-some h z =
-      least-is (has w) (32 - from) from r (omega arith) (omega (arith, inside)) here
-      (λ i l m. has-from i m ∙ trailing-below 32 (w / 2 ^ from) (i - from) (omega (arith, l, m)))
+  -- the first is so many places further as the shifted word has zeros
+  pub next-is : w < 2 ^ 32 → least (has w) 32 from ≡ from + trailingZeros 32 (w / 2 ^ from)
+  unfolding trailingZeros
+  next-is h = go (eqb (w / 2 ^ from) 0) refl
     where
       r : ℕ
       r = from + trailingZeros 32 (w / 2 ^ from)
 
-      here : has w r ≡ true
-      here = sym (has-shifted w from (trailingZeros 32 (w / 2 ^ from))) ∙ trailing-has 32 (w / 2 ^ from) (omega (arith, z)) (lt-of-le-of-lt (div-le-self w (2 ^ from)) h)
-
-      inside : r < 32
-      inside = lt-of-not-le (λ g. true≢false (sym here ∙ has-above 32 w r h g))
+      go : (b : Bool) → eqb (w / 2 ^ from) 0 ≡ b → least (has w) 32 from ≡ r
+      go true e =
+          let z = eqb-true (w / 2 ^ from) 0 e in
+          least-none (has w) 32 from (λ i l. has-from i l ∙ ap (λ (x : ℕ). has x (i - from)) z ∙ has-zero (i - from)) ∙ sym (ap (λ (x : ℕ). from + trailingZeros 32 x) z)
+      go false e =
+          let z = eqb-false (w / 2 ^ from) 0 e in
+          let small = lt-of-le-of-lt (div-le-self w (2 ^ from)) h in
+          let shown = trailing-has 32 (w / 2 ^ from) (omega (arith, z)) small in
+          let inside : trailingZeros 32 (w / 2 ^ from) < 32 = lt-of-not-le (λ g. true≢false (sym shown ∙ has-above 32 (w / 2 ^ from) _ small g)) in
+          least-is (has w) 32 from r (omega arith) (omega (arith, inside)) (sym (has-shifted w from (trailingZeros 32 (w / 2 ^ from))) ∙ shown)
+          (λ i l m. has-from i m ∙ trailing-below 32 (w / 2 ^ from) (i - from) (omega (arith, l, m)))
 
 -- ---- what who asks for the next number knows of it
-module _ (w from r : ℕ) (e : r ≡ least (has w) (32 - from) from) where
+module _ (w from r : ℕ) (e : r ≡ least (has w) 32 from) where
   -- it does not stand before the start
   pub next-from : from ≤ r
-  next-from = rw e (least-from (has w) (32 - from) from)
+  next-from = rw e (least-from (has w) 32 from)
 
   -- no bit stands between
   pub next-below : (i : ℕ) → from ≤ i → i < r → has w i ≡ false
-  next-below i h l = least-below (has w) (32 - from) from i h (subst (λ (x : ℕ). i < x) e l)
+  next-below i h l = least-below (has w) 32 from i h (subst (λ (x : ℕ). i < x) e l)
 
   -- and its own does
   pub next-at : r < 32 → has w r ≡ true
-  next-at h = rw e (least-at (has w) (32 - from) from (let l = next-from in omega (arith, e, h, l)))
+  next-at h = rw e (least-at (has w) 32 from (let l = next-from in omega (arith, e, h, l)))

@@ -2,7 +2,7 @@ use Prim.Native.Nat.{_<_}
 use native.Mathlib.Omega.{arith}
 use borrow.Author.Tests.{ne-eqb}
 use borrow.Author.Needs.{needs}
-use Rattle.step_releases.proofs.Laws.{end-more, end-done}
+use Rattle.step_events.proofs.Laws.{end-more, end-done}
 use Rattle.quiet.proofs.next_event.Statement.{statement}
 use Rattle.quiet.proofs.next_event.Tie as tie
 

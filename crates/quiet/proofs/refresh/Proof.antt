@@ -12,7 +12,7 @@ abbrev μ-loop : tie.MeasureT-loop
 μ-loop rows count tasks t calls wakes₀ j₀ wakes j = count - j
 
 loop-holds : tie.Need-loop-holds Inv-loop μ-loop
-loop-holds c = fresh-none _ _ _ _ _ (c .before .before .before .args .wakes .now) _ (c .before .before .before .pre) (c .next .ensures)
+loop-holds c = fresh-none _ _ _ _ _ (c .before .before .before .args .wakes .now) _ (c .before .before .before .pre .1) (c .next .ensures)
 
 loop-less : tie.Need-loop-less Inv-loop μ-loop
 loop-less c = let after = next-after _ _ _ (c .next2 .ensures) in omega (arith, c .before .before .before .before .loop-test .taken)

@@ -1,4 +1,4 @@
-use Prim.Native.Nat.{ℕ, _<_}
+use Prim.Native.Nat.{ℕ, _-_, _<_}
 use native.Mathlib.Omega.{arith}
 use mathlib.Core.Path.{_∙_}
 use mathlib.Core.List.{List}
@@ -7,7 +7,7 @@ use borrow.Author.Needs.{needs}
 use Rattle.arrays.specs.Arrays.{Arrays}
 use Rattle.step.specs.Step.{given}
 use Rattle.run.specs.Run.{Watched}
-use Rattle.run.proofs.Kept.{Kept, AsLong, toGo, kept-none, kept-ready, kept-asks, kept-done, kept-more, kept-full, nearer}
+use Rattle.run.proofs.Kept.{Kept, AsLong, kept-none, kept-ready, kept-asks, kept-done, kept-more, kept-full, nearer}
 use Rattle.run.proofs.run_ticks.Statement.{statement}
 use Rattle.run.proofs.run_ticks.Tie as tie
 
@@ -15,12 +15,12 @@ abbrev arrays : List ℕ → List ℕ → List ℕ → List ℕ → Arrays
 arrays signals tasks latched held = record { signals = signals; tasks = tasks; latched = latched; held = held }
 
 abbrev Inv-loop : tie.InvT-loop
-Inv-loop plan rows count events asked signals₀ tasks₀ latched₀ held₀ trace₀ most wakes₀ now₀ done₀ look₀ signals tasks latched held trace wakes now done look =
+Inv-loop plan rows count events asked signals₀ tasks₀ latched₀ held₀ trace₀ most wakes₀ now₀ done₀ signals tasks latched held trace wakes now done =
     Kept (given plan rows count events) asked (arrays signals₀ tasks₀ latched₀ held₀) trace₀ now₀ (arrays signals tasks latched held) trace now done
     × Watched rows count tasks (now .tick) wakes
 
 abbrev μ-loop : tie.MeasureT-loop
-μ-loop plan rows count events asked signals₀ tasks₀ latched₀ held₀ trace₀ most wakes₀ now₀ done₀ look₀ signals tasks latched held trace wakes now done look = toGo asked done look
+μ-loop plan rows count events asked signals₀ tasks₀ latched₀ held₀ trace₀ most wakes₀ now₀ done₀ signals tasks latched held trace wakes now done = asked - done
 
 most-entries-requires : tie.Need-most-entries-requires Inv-loop μ-loop
 most-entries-requires c κs = c .before .before .before .before .before .before .before .before .pre .0 .rows
@@ -47,28 +47,28 @@ returns : tie.Need-returns Inv-loop μ-loop
 returns c = kept-full _ _ _ _ _ _ _ _ _ (c .before .before .before .before .before .before .before .before .before .before .before .before .before .before .before .before .before .before .before .before .before .loop .inv .0) _ _ _ (c .before .before .before .before .before .before .before .before .before .before .before .before .before .turn .ensures .0) (c .if1 .taken)
 
 loop-less : tie.Need-loop-less Inv-loop μ-loop
-loop-less c = nearer _ _ _ _ (c .before .before .before .before .before .before .before .before .before .before .before .before .before .before .before .before .before .before .before .before .loop-test .taken) (c .before .before .before .before .before .before .before .before .before .before .before .before .before .turn .ensures .0 .most) (λ e. c .before .before .before .before .before .before .before .before .before .before .before .before .before .turn .ensures .1 .0 e (c .if1 .left))
+loop-less c = nearer _ _ _ (c .before .before .before .before .before .before .before .before .before .before .before .before .before .before .before .before .before .before .before .before .loop-test .taken) (c .before .before .before .before .before .before .before .before .before .before .before .before .before .turn .ensures .1 .0 (c .if1 .left))
 
 loop-again : tie.Need-loop-again Inv-loop μ-loop
 loop-again c = (
-  kept-more _ _ _ _ _ _ _ _ _ (c .before .before .before .before .before .before .before .before .before .before .before .before .before .before .before .before .before .before .before .before .before .loop .inv .0) _ _ _ (c .before .before .before .before .before .before .before .before .before .before .before .before .before .turn .ensures .0) (c .if1 .left) (record { signals = c .before .before .before .before .before .before .before .before .before .before .before .before .before .turn .kept .1 .1 .1 .1 .1 .1 .1 .1 .1 .0; tasks = c .before .before .before .before .before .before .before .before .before .before .before .before .before .turn .kept .1 .1 .1 .1 .1 .1 .1 .1 .1 .1 .0; latched = c .before .before .before .before .before .before .before .before .before .before .before .before .before .turn .kept .1 .1 .1 .1 .1 .1 .1 .1 .1 .1 .1 .0; held = c .before .before .before .before .before .before .before .before .before .before .before .before .before .turn .kept .1 .1 .1 .1 .1 .1 .1 .1 .1 .1 .1 .1 .0 }) (c .before .before .before .before .before .before .before .before .before .before .before .before .before .turn .kept .1 .1 .1 .1 .1 .1 .1 .1 .1 .1 .1 .1 .1 .0),
+  kept-more _ _ _ _ _ _ _ _ _ (c .before .before .before .before .before .before .before .before .before .before .before .before .before .before .before .before .before .before .before .before .before .loop .inv .0) _ _ _ (c .before .before .before .before .before .before .before .before .before .before .before .before .before .turn .ensures .0) (c .if1 .left) (record { signals = c .before .before .before .before .before .before .before .before .before .before .before .before .before .turn .kept .1 .1 .1 .1 .1 .1 .1 .1 .0; tasks = c .before .before .before .before .before .before .before .before .before .before .before .before .before .turn .kept .1 .1 .1 .1 .1 .1 .1 .1 .1 .0; latched = c .before .before .before .before .before .before .before .before .before .before .before .before .before .turn .kept .1 .1 .1 .1 .1 .1 .1 .1 .1 .1 .0; held = c .before .before .before .before .before .before .before .before .before .before .before .before .before .turn .kept .1 .1 .1 .1 .1 .1 .1 .1 .1 .1 .1 .0 }) (c .before .before .before .before .before .before .before .before .before .before .before .before .before .turn .kept .1 .1 .1 .1 .1 .1 .1 .1 .1 .1 .1 .1 .0),
   c .before .before .before .before .before .before .before .before .before .before .before .before .before .turn .ensures .1 .1,
 )
 
 same-length : tie.Need-same-length Inv-loop μ-loop
-same-length c = c .before .before .before .before .before .before .before .before .before .before .before .before .before .turn .kept .1 .1 .1 .1 .1 .1 .1 .1 .1 .0 ∙ c .before .before .before .before .before .before .before .before .before .before .before .before .before .before .before .before .before .before .before .before .before .loop .inv .0 .long .signals
+same-length c = c .before .before .before .before .before .before .before .before .before .before .before .before .before .turn .kept .1 .1 .1 .1 .1 .1 .1 .1 .0 ∙ c .before .before .before .before .before .before .before .before .before .before .before .before .before .before .before .before .before .before .before .before .before .loop .inv .0 .long .signals
 
 same-length-2 : tie.Need-same-length-2 Inv-loop μ-loop
-same-length-2 c = c .before .before .before .before .before .before .before .before .before .before .before .before .before .turn .kept .1 .1 .1 .1 .1 .1 .1 .1 .1 .1 .0 ∙ c .before .before .before .before .before .before .before .before .before .before .before .before .before .before .before .before .before .before .before .before .before .loop .inv .0 .long .tasks
+same-length-2 c = c .before .before .before .before .before .before .before .before .before .before .before .before .before .turn .kept .1 .1 .1 .1 .1 .1 .1 .1 .1 .0 ∙ c .before .before .before .before .before .before .before .before .before .before .before .before .before .before .before .before .before .before .before .before .before .loop .inv .0 .long .tasks
 
 same-length-3 : tie.Need-same-length-3 Inv-loop μ-loop
-same-length-3 c = c .before .before .before .before .before .before .before .before .before .before .before .before .before .turn .kept .1 .1 .1 .1 .1 .1 .1 .1 .1 .1 .1 .0 ∙ c .before .before .before .before .before .before .before .before .before .before .before .before .before .before .before .before .before .before .before .before .before .loop .inv .0 .long .latched
+same-length-3 c = c .before .before .before .before .before .before .before .before .before .before .before .before .before .turn .kept .1 .1 .1 .1 .1 .1 .1 .1 .1 .1 .0 ∙ c .before .before .before .before .before .before .before .before .before .before .before .before .before .before .before .before .before .before .before .before .before .loop .inv .0 .long .latched
 
 same-length-4 : tie.Need-same-length-4 Inv-loop μ-loop
-same-length-4 c = c .before .before .before .before .before .before .before .before .before .before .before .before .before .turn .kept .1 .1 .1 .1 .1 .1 .1 .1 .1 .1 .1 .1 .0 ∙ c .before .before .before .before .before .before .before .before .before .before .before .before .before .before .before .before .before .before .before .before .before .loop .inv .0 .long .held
+same-length-4 c = c .before .before .before .before .before .before .before .before .before .before .before .before .before .turn .kept .1 .1 .1 .1 .1 .1 .1 .1 .1 .1 .1 .0 ∙ c .before .before .before .before .before .before .before .before .before .before .before .before .before .before .before .before .before .before .before .before .before .loop .inv .0 .long .held
 
 same-length-5 : tie.Need-same-length-5 Inv-loop μ-loop
-same-length-5 c = c .before .before .before .before .before .before .before .before .before .before .before .before .before .turn .kept .1 .1 .1 .1 .1 .1 .1 .1 .1 .1 .1 .1 .1 .0 ∙ c .before .before .before .before .before .before .before .before .before .before .before .before .before .before .before .before .before .before .before .before .before .loop .inv .0 .trace-long
+same-length-5 c = c .before .before .before .before .before .before .before .before .before .before .before .before .before .turn .kept .1 .1 .1 .1 .1 .1 .1 .1 .1 .1 .1 .1 .0 ∙ c .before .before .before .before .before .before .before .before .before .before .before .before .before .before .before .before .before .before .before .before .before .loop .inv .0 .trace-long
 
 same-length-6 : tie.Need-same-length-6 Inv-loop μ-loop
 same-length-6 c = c .before .loop .inv .0 .long .signals

@@ -6,46 +6,34 @@ use Rattle.run.proofs.Turns.{turned-full, turned-once, turns-all, turns
 use Rattle.run.proofs.tick_once.Statement.{statement}
 use Rattle.run.proofs.tick_once.Tie as tie
 
-cast-end-of : tie.Need-cast-end-of
-cast-end-of c = omega (arith, c .before .before .before .before .before .before .before .before .pre .0 .events)
-
-end-of-requires : tie.Need-end-of-requires
-end-of-requires c κs = (c .before .before .before .before .before .before .before .before .pre .0 .place, c .before .before .before .before .before .before .before .before .pre .0 .events)
-
 tick-fits-requires : tie.Need-tick-fits-requires
-tick-fits-requires c κs = (c .before .before .before .before .before .before .before .before .before .before .pre .0, (c .before .end-of .ensures .0, (c .before .before .before .before .before .before .before .before .before .before .pre .1 .0 .tasks, c .before .before .before .before .before .before .before .before .before .before .pre .1 .1 .0)))
+tick-fits-requires c κs = (c .before .before .before .before .before .before .before .before .before .pre .0, (c .before .before .before .before .before .before .before .before .before .pre .1 .1 .1 .1 .1 .1 .0, (c .before .before .before .before .before .before .before .before .before .pre .1 .0 .tasks, c .before .before .before .before .before .before .before .before .before .pre .1 .1 .0)))
 
 returns : tie.Need-returns
 returns c = (
-  λ left. turned-full _ left _ _ _ (c .before .before .before .before .before .before .before .before .before .before .before .before .pre .0 .place) (c .before .before .before .before .before .before .before .before .before .before .before .before .pre .1 .1 .1 .0) (short _ _ _ _ (c .before .tick-fits .ensures (c .before .before .before .before .before .before .before .before .before .before .before .before .args .plan .now) (record { signals = c .before .before .before .before .before .before .before .before .before .before .before .before .args .signals .now; tasks = c .before .before .before .before .before .before .before .before .before .before .before .before .args .tasks .now; latched = c .before .before .before .before .before .before .before .before .before .before .before .before .args .latched .now; held = c .before .before .before .before .before .before .before .before .before .before .before .before .args .held .now }) refl) refl (c .if1 .taken)),
-  (refl, c .before .before .before .before .before .before .before .before .before .before .before .before .pre .1 .1 .1 .1 .0),
+  λ left. turned-full _ left _ _ _ (c .before .before .before .before .before .before .before .before .before .before .before .pre .0 .place) (c .before .before .before .before .before .before .before .before .before .before .before .pre .1 .1 .1 .0) (short _ _ _ _ (c .before .tick-fits .ensures (c .before .before .before .before .before .before .before .before .before .before .before .args .plan .now) (record { signals = c .before .before .before .before .before .before .before .before .before .before .before .args .signals .now; tasks = c .before .before .before .before .before .before .before .before .before .before .before .args .tasks .now; latched = c .before .before .before .before .before .before .before .before .before .before .before .args .latched .now; held = c .before .before .before .before .before .before .before .before .before .before .before .args .held .now }) refl) refl (c .if1 .taken)),
+  (refl, c .before .before .before .before .before .before .before .before .before .before .before .pre .1 .1 .1 .1 .0),
 )
 
-calls-requires : tie.Need-calls-requires
-calls-requires c κs = c .before .before .before .before .before .before .before .before .before .before .before .before .before .pre .0 .rows
-
 step-requires : tie.Need-step-requires
-step-requires c κs = (c .before .before .before .before .before .before .before .before .before .before .before .before .before .before .before .before .before .before .before .pre .0, (c .before .before .before .before .before .before .before .before .before .before .end-of .ensures .0, (turns-all _ _ _ _ _ _ _ (c .before .before .before .before .before .before .before .before .before .before .before .before .before .before .before .before .before .before .before .pre .1 .1 .1 .1 .0) (c .before .before .before .before .before .before .before .before .before .before .end-of .ensures .0) (c .before .before .before .before .before .calls .ensures), c .before .before .before .before .before .before .before .before .before .before .before .before .before .before .before .before .before .before .before .pre .1 .1 .1 .1 .1)))
+step-requires c κs = (c .before .before .before .before .before .before .before .before .before .before .before .before .before .before .before .before .pre .0, (c .before .before .before .before .before .before .before .before .before .before .before .before .before .before .before .before .pre .1 .1 .1 .1 .1 .1 .0, (turns-all _ _ _ _ _ _ _ (c .before .before .before .before .before .before .before .before .before .before .before .before .before .before .before .before .pre .1 .1 .1 .1 .0) (c .before .before .before .before .before .before .before .before .before .before .before .before .before .before .before .before .pre .1 .1 .1 .1 .1 .1 .0) (c .before .before .before .before .before .before .before .before .before .before .before .before .before .before .before .before .pre .1 .1 .1 .1 .1 .1 .1), c .before .before .before .before .before .before .before .before .before .before .before .before .before .before .before .before .pre .1 .1 .1 .1 .1 .0)))
 
 refresh-requires : tie.Need-refresh-requires
-refresh-requires c κs = turns-wake _ _ _ _ _ _ _ (c .before .before .before .before .before .before .before .before .before .before .before .before .before .before .before .before .before .before .before .before .before .before .before .before .before .before .before .before .before .before .before .before .pre .1 .1 .1 .1 .0) (c .before .before .before .before .before .before .before .before .before .before .before .before .before .before .before .before .before .before .before .before .before .before .before .end-of .ensures .0) (c .before .before .before .before .before .before .before .before .before .before .before .before .before .before .before .before .before .before .calls .ensures) _ _ _ _ _ refl refl (c .before .before .before .before .before .before .before .before .before .before .before .before .step .ensures .0)
+refresh-requires c κs = (c .before .before .before .before .before .before .before .before .before .before .before .before .before .before .before .before .before .before .before .before .before .before .before .before .before .before .before .before .before .pre .0 .rows, turns-wake _ _ _ _ _ _ _ (c .before .before .before .before .before .before .before .before .before .before .before .before .before .before .before .before .before .before .before .before .before .before .before .before .before .before .before .before .before .pre .1 .1 .1 .1 .0) (c .before .before .before .before .before .before .before .before .before .before .before .before .before .before .before .before .before .before .before .before .before .before .before .before .before .before .before .before .before .pre .1 .1 .1 .1 .1 .1 .0) (c .before .before .before .before .before .before .before .before .before .before .before .before .before .before .before .before .before .before .before .before .before .before .before .before .before .before .before .before .before .pre .1 .1 .1 .1 .1 .1 .1) _ _ _ _ _ refl refl (c .before .before .before .before .before .before .before .before .before .before .before .before .step .ensures .0))
 
 returns-2 : tie.Need-returns-2
 returns-2 c = (
-  λ left. turned-once _ left _ _ _ (c .before .before .before .before .before .before .before .before .before .before .before .before .before .before .before .before .before .before .before .before .before .before .before .before .before .before .before .before .before .before .before .before .before .pre .0 .place) (c .before .before .before .before .before .before .before .before .before .before .before .before .before .before .before .before .before .before .before .before .before .before .before .before .before .before .before .before .before .before .before .before .before .pre .1 .1 .1 .0) _ _ _ (c .before .before .before .before .before .before .before .before .before .before .before .before .before .step .ensures .0) (c .before .before .before .before .before .before .before .before .before .before .before .before .before .step .ensures .1) (enough _ _ _ _ (c .before .before .before .before .before .before .before .before .before .before .before .before .before .before .before .before .before .before .before .before .before .before .tick-fits .ensures (c .before .before .before .before .before .before .before .before .before .before .before .before .before .before .before .before .before .before .before .before .before .before .before .before .before .before .before .before .before .before .before .before .before .args .plan .now) (record { signals = c .before .before .before .before .before .before .before .before .before .before .before .before .before .before .before .before .before .before .before .before .before .before .before .before .before .before .before .before .before .before .before .before .before .args .signals .now; tasks = c .before .before .before .before .before .before .before .before .before .before .before .before .before .before .before .before .before .before .before .before .before .before .before .before .before .before .before .before .before .before .before .before .before .args .tasks .now; latched = c .before .before .before .before .before .before .before .before .before .before .before .before .before .before .before .before .before .before .before .before .before .before .before .before .before .before .before .before .before .before .before .before .before .args .latched .now; held = c .before .before .before .before .before .before .before .before .before .before .before .before .before .before .before .before .before .before .before .before .before .before .before .before .before .before .before .before .before .before .before .before .before .args .held .now }) refl) refl (c .before .before .before .before .before .before .before .before .before .before .before .before .before .before .before .before .before .before .before .before .before .if1 .left)),
-  (refl, record { distinct = c .before .before .before .before .before .before .before .before .before .before .before .before .before .before .before .before .before .before .before .before .before .before .before .before .before .before .before .before .before .before .before .before .before .pre .1 .1 .1 .1 .0 .distinct; instants = c .refresh .ensures }),
+  λ left. turned-once _ left _ _ _ (c .before .before .before .before .before .before .before .before .before .before .before .before .before .before .before .before .before .before .before .before .before .before .before .before .before .before .before .before .before .before .pre .0 .place) (c .before .before .before .before .before .before .before .before .before .before .before .before .before .before .before .before .before .before .before .before .before .before .before .before .before .before .before .before .before .before .pre .1 .1 .1 .0) _ _ _ (c .before .before .before .before .before .before .before .before .before .before .before .before .before .step .ensures .0) (c .before .before .before .before .before .before .before .before .before .before .before .before .before .step .ensures .1) (enough _ _ _ _ (c .before .before .before .before .before .before .before .before .before .before .before .before .before .before .before .before .before .before .before .before .tick-fits .ensures (c .before .before .before .before .before .before .before .before .before .before .before .before .before .before .before .before .before .before .before .before .before .before .before .before .before .before .before .before .before .before .args .plan .now) (record { signals = c .before .before .before .before .before .before .before .before .before .before .before .before .before .before .before .before .before .before .before .before .before .before .before .before .before .before .before .before .before .before .args .signals .now; tasks = c .before .before .before .before .before .before .before .before .before .before .before .before .before .before .before .before .before .before .before .before .before .before .before .before .before .before .before .before .before .before .args .tasks .now; latched = c .before .before .before .before .before .before .before .before .before .before .before .before .before .before .before .before .before .before .before .before .before .before .before .before .before .before .before .before .before .before .args .latched .now; held = c .before .before .before .before .before .before .before .before .before .before .before .before .before .before .before .before .before .before .before .before .before .before .before .before .before .before .before .before .before .before .args .held .now }) refl) refl (c .before .before .before .before .before .before .before .before .before .before .before .before .before .before .before .before .before .before .before .if1 .left)),
+  (refl, record { distinct = c .before .before .before .before .before .before .before .before .before .before .before .before .before .before .before .before .before .before .before .before .before .before .before .before .before .before .before .before .before .before .pre .1 .1 .1 .1 .0 .distinct; instants = c .refresh .ensures }),
 )
 
 pub tick-once-spec : {M : Type 1} → statement M
 tick-once-spec =
     tie.close
     (tie.spec
-    cast-end-of
-    end-of-requires
     tick-fits-requires
     (λ c. search needs)
     returns
-    calls-requires
     step-requires
     refresh-requires
     (λ c. search needs)

@@ -1,11 +1,9 @@
 use native.Mathlib.Omega.{arith}
-use Prim.Native.Nat.{ℕ, _+_, _-_}
-use mathlib.Core.List.{List}
-use mathlib.Core.Path.{_≡_, refl, sym, ap, _∙_}
-use lib.ListN.{replicate, length-replicate}
+use mathlib.Core.Path.{_≡_, refl, sym, _∙_}
+use lib.ListN.{length-replicate}
 use borrow.Author.Needs.{needs}
 use borrow.Author.Tests.{ne-eqb}
-use Rattle.trace.specs.Trace.{over, entry, ignoredKind}
+use Rattle.trace.specs.Trace.{over}
 use Rattle.steps.specs.Flat.{grant, answerRow}
 use Rattle.step_releases.proofs.Laws.{call-none, call-ready, call-events, call-overrun, call-closed}
 use Rattle.step_releases.proofs.grant_row.Statement.{statement}
@@ -25,16 +23,12 @@ unfolding grant answerRow over
 returns-2 c = (λ held. rw (call-none _ _ _ _ _ (sym (c .before .asked-of .ensures) ∙ c .if2 .taken)) (record { arrays = refl; trace = refl; ends = omega arith }), omega arith)
 
 returns-3 : tie.Need-returns-3
-unfolding grant answerRow over
+unfolding grant
 returns-3 c = (
   λ held.
-      rw (call-ready _ _ _ _ _ (rw (c .before .before .before .before .before .before .before .before .before .before .before .before .before .before .before .before .before .before .before .before .before .before .before .before .row-field .ensures) at (sym (c .before .before .before .before .before .before .before .before .before .before .before .before .before .before .before .before .before .before .before .before .task-field .ensures) ∙ c .before .before .before .before .before .before .before .before .before .before .before .before .before .before .before .if3 .taken)), ← c .before .before .before .before .before .before .before .before .before .before .before .before .before .before .before .before .before .asked-of .ensures, ne-eqb _ _ (c .before .before .before .before .before .before .before .before .before .before .before .before .before .before .before .before .if2 .left))
-      (record {
-        arrays = rw (c .before .before .before .before .before .before .before .before .before .before .before .before .start-row .ensures .tasks, c .before .before .before .before .before .before .before .before .before .before .before .before .start-row .ensures .latched);
-        trace = rw (← c .before .before .before .before .before .before .before .before .before .before .before .before .before .before .before .before .before .before .before .before .before .before .before .before .row-field .ensures) (c .before .before .ignore .ensures .trace ∙ ap (λ (l : List ℕ). over l (c .before .before .before .before .before .before .before .before .before .before .before .before .before .before .before .before .before .before .before .before .before .before .before .before .before .before .before .before .before .before .before .args .from + 5) (replicate (c .before .before .before .before .before .before .before .before .before .before .before .before .before .before .before .before .before .asked-of .result - 1) (entry (c .before .before .before .before .before .before .before .before .before .before .before .before .before .before .before .before .before .before .before .before .before .before .before .before .before .before .before .before .before .before .before .args .moment .t) ignoredKind (c .before .before .before .before .before .before .before .before .before .before .before .before .before .before .before .before .before .before .before .before .before .before .before .before .row-field .result)))) (c .before .before .before .before .before .before .put .ensures));
-        ends = simp length-replicate (let e = c .before .before .ignore .ensures .ends in omega arith);
-      }),
-  let e = c .before .before .ignore .ensures .ends in omega arith,
+      rw (call-ready _ _ _ _ _ (rw (c .before .before .before .before .before .before .before .before .before .before .before .before .before .before .before .before .before .before .before .row-field .ensures) at (sym (c .before .before .before .before .before .before .before .before .before .before .before .before .before .before .before .task-field .ensures) ∙ c .before .before .before .before .before .before .before .before .before .before .if3 .taken)), ← c .before .before .before .before .before .before .before .before .before .before .before .before .asked-of .ensures, ne-eqb _ _ (c .before .before .before .before .before .before .before .before .before .before .before .if2 .left))
+      (c .before .before .before .before .before .before .release-row .ensures .0 held),
+  c .before .before .before .before .before .before .release-row .ensures .1,
 )
 
 returns-4 : tie.Need-returns-4
@@ -44,10 +38,10 @@ returns-4 c = (
       rw (call-events _ _ _ _ _ (λ z. c .before .before .before .before .before .if3 .left (c .before .before .before .before .before .before .before .before .before .before .task-field .ensures ∙ rw (c .before .before .before .before .before .before .before .before .before .before .before .before .before .before .row-field .ensures) z)) (sym (c .before .before .before .before .before .before .before .before .before .before .before .before .before .row-field2 .ensures) ∙ c .before .before .before .before .if4 .taken), ← c .before .before .before .before .before .before .before .asked-of .ensures)
       (record {
         arrays = refl;
-        trace = rw (← c .before .before .before .before .before .before .before .before .before .before .before .before .before .before .row-field .ensures) (c .before .before .ignore2 .ensures .trace);
-        ends = simp length-replicate (let e = c .before .before .ignore2 .ensures .ends in omega arith);
+        trace = rw (← c .before .before .before .before .before .before .before .before .before .before .before .before .before .before .row-field .ensures) (c .before .before .ignore .ensures .trace);
+        ends = simp length-replicate (let e = c .before .before .ignore .ensures .ends in omega arith);
       }),
-  let e = c .before .before .ignore2 .ensures .ends in omega arith,
+  let e = c .before .before .ignore .ensures .ends in omega arith,
 )
 
 returns-5 : tie.Need-returns-5
@@ -59,7 +53,7 @@ returns-5 c = (
             (rw (c .before .before .before .before .before .before .before .before .before .before .before .before .before .before .before .before .before .row-field2 .ensures, c .before .before .before .before .before .before .before .before .before .before .before .before .before .before .before .before .row-field3 .ensures, c .before .before .before .before .before .before .before .before .before .before .before .before .before .before .task-field .ensures, c .before .before .before .before .before .before .before .before .before .before .before .before .before .before .before .before .before .before .row-field .ensures) at (sym (c .before .before .before .before .before .before .before .before .before .before .before .before .before .is-closed .ensures) ∙ c .before .before .before .before .before .before .before .before .before .before .before .before .if1 .left)),
         ← c .before .before .before .before .before .before .before .before .before .before .before .before .before .before .before .before .before .before .row-field .ensures,
       )
-      (record { arrays = rw (c .before .before .reset-task .ensures); trace = c .before .before .before .before .before .before .put2 .ensures; ends = omega arith }),
+      (record { arrays = rw (c .before .before .reset-task .ensures); trace = c .before .before .before .before .before .before .put .ensures; ends = omega arith }),
   omega arith,
 )
 
@@ -77,10 +71,6 @@ grant-row-spec =
     (λ c κs. search needs)
     (λ c. search needs)
     returns-2
-    (λ c κs. search needs)
-    (λ c κs. search needs)
-    (λ c. search needs)
-    (λ c. search needs)
     (λ c κs. search needs)
     (λ c. search needs)
     (λ c. search needs)

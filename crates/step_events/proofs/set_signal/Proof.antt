@@ -1,7 +1,7 @@
 use borrow.Author.Needs.{needs}
 use borrow.Author.Tests.{eq-eqb, ne-eqb}
-use Rattle.step_releases.proofs.set_signal.Statement.{statement}
-use Rattle.step_releases.proofs.set_signal.Tie as tie
+use Rattle.step_events.proofs.set_signal.Statement.{statement}
+use Rattle.step_events.proofs.set_signal.Tie as tie
 
 returns : tie.Need-returns
 returns c = rw (← c .before .before .before .before .before .before .before .word .ensures, eq-eqb _ _ (c .before .before .before .before .before .before .if1 .taken), ← c .before .before .before .before .word2 .ensures, ← c .before .before .before .word3 .ensures) (c .before .before .put .ensures)

@@ -14,8 +14,8 @@ use Rattle.tick.specs.Tick.{writeAll}
 use Rattle.arrays.specs.Arrays.{rowField}
 use Rattle.steps.specs.Flat.{taskOfRow, rowWrites, writeEntries}
 use Rattle.steps.proofs.Laws.{write-more, write-done, entries-more, entries-done, writes-length}
-use Rattle.step_deadlines.proofs.write_row.Statement.{statement}
-use Rattle.step_deadlines.proofs.write_row.Tie as tie
+use Rattle.writes.proofs.write_row.Statement.{statement}
+use Rattle.writes.proofs.write_row.Tie as tie
 
 -- write p of a row
 abbrev writeAt : List ℕ → ℕ → List ℕ → ℕ → Write

@@ -5,9 +5,9 @@ use borrow.Author.Needs.{needs}
 use borrow.Author.Tests.{eq-eqb, ne-eqb}
 use Rattle.words.specs.Words.{wordsOf}
 use Rattle.steps.specs.Flat.{endFrom}
-use Rattle.step_releases.proofs.Laws.{end-more, end-done}
-use Rattle.step_releases.proofs.end_of.Statement.{statement}
-use Rattle.step_releases.proofs.end_of.Tie as tie
+use Rattle.step_events.proofs.Laws.{end-more, end-done}
+use Rattle.step_events.proofs.end_of.Statement.{statement}
+use Rattle.step_events.proofs.end_of.Tie as tie
 
 abbrev Inv-loop : tie.InvT-loop
 Inv-loop events t place count p₀ p =

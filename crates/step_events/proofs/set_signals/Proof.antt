@@ -5,9 +5,9 @@ use borrow.Author.Needs.{needs}
 use Rattle.words.specs.Words.{wordsOf}
 use Rattle.tick.specs.Tick.{setNow}
 use Rattle.steps.specs.Flat.{between}
-use Rattle.step_releases.proofs.Laws.{set-more, set-done}
-use Rattle.step_releases.proofs.set_signals.Statement.{statement}
-use Rattle.step_releases.proofs.set_signals.Tie as tie
+use Rattle.step_events.proofs.Laws.{set-more, set-done}
+use Rattle.step_events.proofs.set_signals.Statement.{statement}
+use Rattle.step_events.proofs.set_signals.Tie as tie
 
 abbrev Inv-loop : tie.InvT-loop
 Inv-loop events from to signals₀ p₀ signals p =

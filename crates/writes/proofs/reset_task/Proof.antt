@@ -1,8 +1,8 @@
 use Prim.Native.Nat.{_+_, _*_}
 use native.Mathlib.Nat.{add-zero}
 use borrow.Author.Needs.{needs}
-use Rattle.step_deadlines.proofs.reset_task.Statement.{statement}
-use Rattle.step_deadlines.proofs.reset_task.Tie as tie
+use Rattle.writes.proofs.reset_task.Statement.{statement}
+use Rattle.writes.proofs.reset_task.Tie as tie
 
 returns : tie.Need-returns
 returns c = rw (c .before .before .put3 .ensures, c .before .before .before .before .before .before .put2 .ensures, c .before .before .before .before .before .before .before .before .before .before .put .ensures, add-zero)
