@@ -43,9 +43,52 @@ field tasks i f = getD tasks (i * 4 + f) 0
 abbrev pub withField : List ℕ → ℕ → ℕ → ℕ → List ℕ
 withField tasks i f x = set tasks (i * 4 + f) x
 
--- field f of row j of the schedule (plan_schedule/specs/Schedule.antt names them)
+-- the fields of a row of the schedule, by the place at which each stands; the input and output signals start at theirs
+abbrev pub rowTask : ℕ
+rowTask = 0
+
+abbrev pub rowPeriod : ℕ
+rowPeriod = 1
+
+abbrev pub rowDeadline : ℕ
+rowDeadline = 2
+
+abbrev pub rowExecution : ℕ
+rowExecution = 3
+
+abbrev pub rowOffset : ℕ
+rowOffset = 4
+
+abbrev pub rowKind : ℕ
+rowKind = 5
+
+abbrev pub rowStart : ℕ
+rowStart = 6
+
+abbrev pub rowInputCount : ℕ
+rowInputCount = 7
+
+abbrev pub rowOutputCount : ℕ
+rowOutputCount = 8
+
+abbrev pub rowTransitionCount : ℕ
+rowTransitionCount = 9
+
+abbrev pub rowActionCount : ℕ
+rowActionCount = 10
+
+abbrev pub rowInputs : ℕ
+rowInputs = 16
+
+abbrev pub rowOutputs : ℕ
+rowOutputs = 24
+
+abbrev pub rowWidth : ℕ
+rowWidth = 32
+
+-- field f of row j of the schedule
 abbrev pub rowField : List ℕ → ℕ → ℕ → ℕ
-rowField rows j f = getD rows (j * 32 + f) 0
+rowField rows j f = getD rows (j * rowWidth + f) 0
 
 -- what a step comes to: the arrays after it, and its records
 pub record Step : Type 0 where

@@ -7,7 +7,7 @@ use lib.ListN.{getD}
 use lib.Dec.{ltb, eqb}
 use Rattle.marks.specs.Marks.{has, seen, mark}
 use Rattle.events.specs.Events.{Event}
-use Rattle.arrays.specs.Arrays.{active, finished, field, withField, rowField}
+use Rattle.arrays.specs.Arrays.{active, finished, field, withField, rowField, rowDeadline}
 use Rattle.tick.specs.Turns.{requests, ignored}
 use Rattle.steps.specs.Flat.{taskOfRow, endsNow, endFrom, between, isDue, callOfRow, firstActive}
 use Rattle.step.specs.Step.{Given, placeAfter}
@@ -18,7 +18,7 @@ inFlight s = eqb s finished || eqb s active
 
 -- row j does nothing in steps 1 and 2 of tick t, no event coming
 pub record RowQuiet (rows tasks : List ℕ) (j t : ℕ) : Type 0 where
-  pub deadline : (endsNow t (field tasks (taskOfRow rows j) 2) (rowField rows j 2) && inFlight (field tasks (taskOfRow rows j) 0)) ≡ false
+  pub deadline : (endsNow t (field tasks (taskOfRow rows j) 2) (rowField rows j rowDeadline) && inFlight (field tasks (taskOfRow rows j) 0)) ≡ false
   pub call : callOfRow t rows [] j tasks ≡ ignored 0
 
 -- so do n rows, from tick t up to instant w

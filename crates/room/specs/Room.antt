@@ -3,12 +3,12 @@ use Prim.Native.Nat.{ℕ, zero, suc, _+_, _*_}
 use mathlib.Core.Path.{_≡_}
 use mathlib.Core.List.{List}
 use lib.ListN.{length}
-use Rattle.arrays.specs.Arrays.{Arrays, Step, rowField}
+use Rattle.arrays.specs.Arrays.{Arrays, Step, rowField, rowOutputCount}
 use Rattle.step.specs.Step.{Given}
 
 -- the most records of row j in step 1: a write for each of its outputs, or a miss
 abbrev pub rowMost : List ℕ → ℕ → ℕ
-rowMost rows j = rowField rows j 8 + 1
+rowMost rows j = rowField rows j rowOutputCount + 1
 
 -- b j + b (j + 1) + .., n of them
 unfoldable pub total : (ℕ → ℕ) → ℕ → ℕ → ℕ

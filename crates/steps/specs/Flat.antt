@@ -17,7 +17,7 @@ use Rattle.trace.specs.Trace.{releaseKind, missKind, overrunKind, ignoredKind, 
 use Rattle.trace.specs.declared.Entry.{Entry}
 use Rattle.state.specs.declared.Status.{Status}
 use Rattle.state.specs.declared.Status.the-variants.{READY, ACTIVE, FINISHED, ERROR}
-use Rattle.arrays.specs.Arrays.{Arrays, Step, still, ready, active, finished, error, field, withField, rowField}
+use Rattle.arrays.specs.Arrays.{Arrays, Step, still, ready, active, finished, error, field, withField, rowField, rowDeadline, rowExecution, rowInputCount, rowInputs, rowOffset, rowOutputCount, rowOutputs, rowPeriod, rowTask}
 use Rattle.tick.specs.Turns.{Write, requests, Call, released, overrun, ignored, periodicCall, eventCall}
 use Rattle.tick.specs.Tick.{writeAll}
 
@@ -42,7 +42,7 @@ statusOf (suc (suc (suc n))) = ERROR
 
 -- the fields of a row
 abbrev pub taskOfRow : List ℕ → ℕ → ℕ
-taskOfRow rows j = rowField rows j 0
+taskOfRow rows j = rowField rows j rowTask
 
 -- task i becomes READY or ERROR
 abbrev pub reset : ℕ → ℕ → List ℕ → List ℕ
@@ -51,7 +51,7 @@ reset s i tasks = withField (withField (withField tasks i 0 s) i 1 0) i 2 0
 -- what the task of row j writes: its held outputs to its signals, in position order
 abbrev pub rowWrites : List ℕ → ℕ → List ℕ → List Write
 rowWrites rows j held =
-    tab (λ p. record { signal = rowField rows j (24 + p); value = getD held (taskOfRow rows j * 8 + p) 0 }) 0 (rowField rows j 8)
+    tab (λ p. record { signal = rowField rows j (rowOutputs + p); value = getD held (taskOfRow rows j * 8 + p) 0 }) 0 (rowField rows j rowOutputCount)
 
 abbrev pub writeEntries : ℕ → ℕ → List Write → List Entry
 writeEntries t i ws = map (λ w. writeEntry t i (w .signal) (w .value)) ws
@@ -83,7 +83,7 @@ unfoldable pub lapse : ℕ → List ℕ → ℕ → Arrays → Step
 lapse t rows j a =
     let i = taskOfRow rows j in
     let s = field (a .tasks) i 0 in
-    cond (endsNow t (field (a .tasks) i 2) (rowField rows j 2))
+    cond (endsNow t (field (a .tasks) i 2) (rowField rows j rowDeadline))
     (cond (eqb s finished) (writeRow t rows j a) (cond (eqb s active) (failRow t missKind rows j a) (still a)))
     (still a)
 
@@ -99,7 +99,7 @@ between ws p q = tab (eventOf ws) p (q - p)
 -- ---- step 2
 -- the inputs of the task of row j, latched; 0 beyond ni
 abbrev pub latchedAt : List ℕ → ℕ → List ℕ → ℕ → ℕ
-latchedAt rows j signals p = cond (ltb p (rowField rows j 7)) (getD signals (rowField rows j (16 + p)) 0) 0
+latchedAt rows j signals p = cond (ltb p (rowField rows j rowInputCount)) (getD signals (rowField rows j (rowInputs + p)) 0) 0
 
 -- n ports from port p on
 unfoldable pub latch : List ℕ → ℕ → List ℕ → ℕ → ℕ → List ℕ → List ℕ
@@ -115,8 +115,8 @@ abbrev pub callOfRow : ℕ → List ℕ → List Event → ℕ → List ℕ → 
 callOfRow t rows now j tasks =
     let i = taskOfRow rows j in
     let s = statusOf (field tasks i 0) in
-    cond (eqb (rowField rows j 1) 0) (eventCall s (requests i now))
-    (periodicCall s (isDue t (rowField rows j 4) (rowField rows j 1)) (eqb (rowField rows j 2) 0))
+    cond (eqb (rowField rows j rowPeriod) 0) (eventCall s (requests i now))
+    (periodicCall s (isDue t (rowField rows j rowOffset) (rowField rows j rowPeriod)) (eqb (rowField rows j rowDeadline) 0))
 
 unfoldable pub answerRow : ℕ → List ℕ → ℕ → Arrays → Call → Step
 answerRow t rows j a (released n) =
@@ -124,7 +124,7 @@ answerRow t rows j a (released n) =
     record {
       arrays = record {
         signals = a .signals;
-        tasks = withField (withField (withField (a .tasks) i 0 active) i 1 (rowField rows j 3)) i 2 t;
+        tasks = withField (withField (withField (a .tasks) i 0 active) i 1 (rowField rows j rowExecution)) i 2 t;
         latched = latch rows j (a .signals) maxPorts 0 (a .latched);
         held = a .held;
       };
@@ -165,7 +165,7 @@ work t ws rows j a =
     let i = taskOfRow rows j in
     let rest = field (a .tasks) i 1 - 1 in
     cond (eqb rest 0)
-    (cond (eqb (rowField rows j 2) 0) (writeRow t rows j (finishTask ws i a)) (still (finishTask ws i a)))
+    (cond (eqb (rowField rows j rowDeadline) 0) (writeRow t rows j (finishTask ws i a)) (still (finishTask ws i a)))
     (still (record { signals = a .signals; tasks = withField (a .tasks) i 1 rest; latched = a .latched; held = a .held }))
 
 -- the first of n rows from row j on whose task is ACTIVE: rows stand in order of priority. The row past them where there is none

@@ -12,7 +12,7 @@ use Rattle.state.specs.declared.Status.{Status}
 use Rattle.state.specs.declared.Status.the-variants.{READY, ACTIVE, FINISHED, ERROR}
 use Rattle.state.specs.declared.TaskState.{TaskState}
 use Rattle.state.specs.declared.State.{State}
-use Rattle.arrays.specs.Arrays.{Arrays, ready, active, finished, error, field, rowField}
+use Rattle.arrays.specs.Arrays.{Arrays, ready, active, finished, error, field, rowField, rowDeadline, rowExecution, rowInputCount, rowInputs, rowOffset, rowOutputCount, rowOutputs, rowPeriod}
 use Rattle.tick.specs.Tick.{Moment}
 use Rattle.steps.specs.Flat.{statusOf, taskOfRow}
 
@@ -68,14 +68,14 @@ apart s = record {
 -- row j says what the plan says of a task k, whose number has a place in the arrays
 pub record RowOf (rows : List ℕ) (j : ℕ) (k : Task) : Type 0 where
   pub place : taskOfRow rows j < maxTasks
-  pub period : rowField rows j 1 ≡ k .period
-  pub deadline : rowField rows j 2 ≡ k .deadline
-  pub execution : rowField rows j 3 ≡ k .execution
-  pub offset : rowField rows j 4 ≡ k .offset
-  pub inputCount : rowField rows j 7 ≡ length (k .inputs)
-  pub outputCount : rowField rows j 8 ≡ length (k .outputs)
-  pub input : (p : ℕ) → p < maxPorts → rowField rows j (16 + p) ≡ getD (k .inputs) p 0
-  pub output : (p : ℕ) → p < maxPorts → rowField rows j (24 + p) ≡ getD (k .outputs) p 0
+  pub period : rowField rows j rowPeriod ≡ k .period
+  pub deadline : rowField rows j rowDeadline ≡ k .deadline
+  pub execution : rowField rows j rowExecution ≡ k .execution
+  pub offset : rowField rows j rowOffset ≡ k .offset
+  pub inputCount : rowField rows j rowInputCount ≡ length (k .inputs)
+  pub outputCount : rowField rows j rowOutputCount ≡ length (k .outputs)
+  pub input : (p : ℕ) → p < maxPorts → rowField rows j (rowInputs + p) ≡ getD (k .inputs) p 0
+  pub output : (p : ℕ) → p < maxPorts → rowField rows j (rowOutputs + p) ≡ getD (k .outputs) p 0
   pub inputs : length (k .inputs) ≤ maxPorts
   pub outputs : length (k .outputs) ≤ maxPorts
 
