@@ -11,8 +11,8 @@ use Rattle.plan.specs.File.{taskOf, planOf, allOutputs}
 use Rattle.plan.specs.Order.{withPriority, inOrder, order}
 use Rattle.plan.specs.Rules.{chained, transitionsRule, taskRules, allNew, afterAll, clashRules, planRules}
 use Rattle.events.specs.Events.{eventRules, passed}
-use Rattle.trace.specs.Trace.{lines, traceAfter}
-use Rattle.trace.specs.declared.Entry.{Entry}
+use Rattle.trace.specs.Trace.{traceAfter}
+use Rattle.trace.proofs.Laws.{records-laid}
 use Rattle.body.specs.Body.{inTurn, sooner, after, move, doAction, supervise, control, body}
 use Rattle.state.specs.State.{freshTask, fresh, sized}
 use Rattle.state.specs.Fits.{taskFits, taskRule, fits}
@@ -21,7 +21,7 @@ use Rattle.tick.specs.Tick.{writeAll, each, eventsAt, setNow, better, mostUrgen
 use Rattle.kernel.specs.Call.{startState, Starts, Ran, runRoom, call, Runs}
 use Rattle.kernel.specs.declared.Started.{Started}
 use Rattle.kernel.specs.declared.Outcome.{Outcome}
-use Rattle.marked.specs.Marked.{traceWords, recordLine, runLines, printed, printedOn, recordLines, outcomeLines, decimal, spaced, lineTexts, text, bytesOf, inARow, taskWords, contents, fileOf, eventFile, task0, task1, sample, supervisor, sampleLines, Marked, Prints, EntriesPrint, inputOf, p1, p2, p3, p4, p5, p6, p7, p8-done, p8-not, p9, p10, p11-accepted, p11-ignored, marked, ownAmong, ownLines}
+use Rattle.marked.specs.Marked.{traceWords, recordLine, runLines, printed, printedOn, outcomeLines, decimal, spaced, lineTexts, text, bytesOf, inARow, taskWords, contents, fileOf, eventFile, task0, task1, sample, supervisor, sampleLines, Marked, Prints, EntriesPrint, inputOf, p1, p2, p3, p4, p5, p6, p7, p8-done, p8-not, p9, p10, p11-accepted, p11-ignored, marked, ownAmong, ownLines}
 
 -- "P1 to P11 are proved of the definitions by a single statement over a list"
 pub marked-prints : Every Prints marked
@@ -45,16 +45,10 @@ pub p4-own : (i : ℕ) → ownLines i (printed (p4 .ticks) (p4 .plan) (p4 .event
 p4-own i = ap (ownLines i) (marked-prints .1 .1 .1 .0) ∙ own-lines i ∙ sym (ap (ownLines i) (marked-prints .0))
 
 -- ---- the same of whatever meets the contracts of the entries
--- the records stand in the trace that is left
-records-stand : (es : List Entry) (rest : List ℕ) → recordLines (lines es ++ rest) (length es) ≡ map recordLine es
-unfolding lines recordLines
-records-stand [] rest = refl
-records-stand (e ∷ es) rest = ap (λ ls. recordLine e ∷ ls) (records-stand es rest)
-
 -- an outcome that is a run prints the run's lines
 outcome-prints : (ran : Ran) (lent left : List ℕ) (r : Outcome) → said (r .answer) ≡ ran .verdict → r .ticks ≡ ran .ticks
     → r .records ≡ length (ran .entries) → left ≡ traceAfter (ran .entries) lent → outcomeLines r left ≡ runLines ran
-outcome-prints ran lent left r answers ticks records trace = rw (answers, ticks, records, trace, records-stand (ran .entries) _)
+outcome-prints ran lent left r answers ticks records trace = rw (answers, ticks, records, trace, records-laid (ran .entries) _)
 
 -- so the entries, from a fresh start on, print what the definitions say
 pub entries-print : (ticks : ℕ) (plan events : List ℕ) (s : Started) (lent left : List ℕ) (r : Outcome) → length lent ≡ traceWords

@@ -8,8 +8,9 @@ use lib.ListN.{length, getD, take, drop}
 use lib.Dec.{leb, ltb, eqb}
 use Rattle.words.specs.Words.{wordAt}
 use Rattle.answers.specs.Answers.{said}
-use Rattle.plan.specs.File.{word, Transition, Action, Task, Plan}
+use Rattle.plan.specs.File.{Transition, Action, Task, Plan}
 use Rattle.events.specs.Events.{Event}
+use Rattle.trace.specs.Trace.{recordsIn}
 use Rattle.trace.specs.declared.Entry.{Entry}
 use Rattle.kernel.specs.Call.{startState, Starts, Ran, call, Runs}
 use Rattle.kernel.specs.declared.Started.{Started}
@@ -52,15 +53,9 @@ printedOn input =
     ((0 ∷ 15 ∷ []) ∷ [])
 
 -- ---- the same of what the entries answer
--- the first n records that stand in a trace
-unfoldable pub recordLines : List ℕ → ℕ → List (List ℕ)
-recordLines trace zero = []
-recordLines trace (suc n) =
-    (word trace 0 ∷ word trace 1 ∷ word trace 2 ∷ word trace 3 ∷ word trace 4 ∷ []) ∷ recordLines (drop 5 trace) n
-
 -- the lines of an outcome and of the trace that is left
 abbrev pub outcomeLines : Outcome → List ℕ → List (List ℕ)
-outcomeLines r trace = (r .ticks ∷ said (r .answer) .number ∷ []) ∷ recordLines trace (r .records)
+outcomeLines r trace = (r .ticks ∷ said (r .answer) .number ∷ []) ∷ map recordLine (recordsIn trace (r .records))
 
 -- ---- the lines as text, byte for byte
 -- a digit; '0' is 48

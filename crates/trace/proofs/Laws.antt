@@ -10,7 +10,7 @@ use lib.Seq.{sets, sets-eq, take-append-le, take-at, drop-at, drop-drop, length-
 use native.Mathlib.Numerals.{add-one}
 use lib.Dec.{leb}
 use borrow.Author.Tests.{le-leb}
-use Rattle.trace.specs.Trace.{store, putAt, over, lines, traceAfter}
+use Rattle.trace.specs.Trace.{store, putAt, over, lines, traceAfter, recordsIn}
 use Rattle.trace.specs.declared.Entry.{Entry}
 
 -- the five words of a record
@@ -81,3 +81,9 @@ pub length-over : (es : List Entry) (l : List ℕ) (at : ℕ) → length (over l
 unfolding over
 length-over [] l at = refl
 length-over (e ∷ es) l at = length-over es (putAt l at e) (at + 5) ∙ length-put l at e
+
+-- ---- the records that were laid from a trace's start are those that are read there
+pub records-laid : (es : List Entry) (rest : List ℕ) → recordsIn (lines es ++ rest) (length es) ≡ es
+unfolding recordsIn lines
+records-laid [] rest = refl
+records-laid (e ∷ es) rest = rw (records-laid es rest)

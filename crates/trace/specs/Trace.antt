@@ -1,8 +1,8 @@
 -- Document 01, 'Trace and printing'.
-use Prim.Native.Nat.{ℕ, _+_, _*_}
+use Prim.Native.Nat.{ℕ, zero, suc, _+_, _*_}
 use mathlib.Core.Bool.{cond}
 use mathlib.Core.List.{List, [], _∷_, _++_}
-use lib.ListN.{length, set, drop}
+use lib.ListN.{length, getD, set, drop}
 use lib.Dec.{leb}
 use Rattle.trace.specs.declared.Entry.{Entry}
 
@@ -38,6 +38,13 @@ lines (e ∷ es) = e .instant ∷ e .kind ∷ e .task ∷ e .signal ∷ e .value
 -- ".. from the trace's start at each call"; "words beyond the records stay"
 abbrev pub traceAfter : List Entry → List ℕ → List ℕ
 traceAfter es trace = lines es ++ drop (5 * length es) trace
+
+-- the first n records that stand in a trace
+unfoldable pub recordsIn : List ℕ → ℕ → List Entry
+recordsIn trace zero = []
+recordsIn trace (suc n) =
+    record { instant = getD trace 0 0; kind = getD trace 1 0; task = getD trace 2 0; signal = getD trace 3 0; value = getD trace 4 0 }
+    ∷ recordsIn (drop 5 trace) n
 
 -- ---- one record after the other, as the steps come
 -- five words from word `at` on

@@ -11,7 +11,8 @@ use Rattle.answers.specs.Answers.{Verdict, verdict, said}
 use Rattle.plan.specs.File.{planOf}
 use Rattle.plan.specs.Rules.{planVerdict}
 use Rattle.events.specs.Events.{eventsOf}
-use Rattle.trace.specs.Trace.{lines, traceAfter}
+use Rattle.trace.specs.Trace.{traceAfter, recordsIn}
+use Rattle.trace.proofs.Laws.{records-laid}
 use Rattle.trace.specs.declared.Entry.{Entry}
 use Rattle.state.specs.State.{fresh, zeroState}
 use Rattle.state.specs.declared.State.{State}
@@ -19,14 +20,8 @@ use Rattle.tick.specs.Tick.{Ticked, tick}
 use Rattle.kernel.specs.Call.{Starts, callVerdict, Ran, stopped, onward, runRoom, call, Runs}
 use Rattle.kernel.specs.declared.Started.{Started}
 use Rattle.kernel.specs.declared.Outcome.{Outcome}
-use Rattle.zero.specs.Zero.{ticks, recordsIn, Called, recordsOf, InTurn, ticksOf, allRecords, lastState}
+use Rattle.zero.specs.Zero.{ticks, Called, recordsOf, InTurn, ticksOf, allRecords, lastState}
 use Rattle.zero.proofs.Ticks.{ticks-state, ticks-entries}
-
--- ---- the records that were laid from a trace's start are those that are read there
-pub records-laid : (es : List Entry) (rest : List ℕ) → recordsIn (lines es ++ rest) (length es) ≡ es
-unfolding recordsIn lines
-records-laid [] rest = refl
-records-laid (e ∷ es) rest = rw (records-laid es rest)
 
 -- ---- a run, up to the tick whose records do not fit
 record Ticking (step : State → Ticked) (s : State) (r : Ran) : Type 0 where

@@ -7,14 +7,14 @@ use Rattle.answers.specs.Answers.{said}
 use Rattle.plan.specs.File.{planOf}
 use Rattle.plan.specs.Rules.{planVerdict}
 use Rattle.events.specs.Events.{eventsOf}
-use Rattle.trace.specs.Trace.{traceAfter}
+use Rattle.trace.specs.Trace.{traceAfter, recordsIn}
 use Rattle.state.specs.State.{fresh}
 use Rattle.state.specs.declared.State.{State}
 use Rattle.tick.specs.Tick.{Ticked, tick}
 use Rattle.kernel.specs.Call.{Starts, Runs}
 use Rattle.kernel.specs.declared.Started.{Started}
 use Rattle.kernel.specs.declared.Outcome.{Outcome}
-use Rattle.zero.specs.Zero.{WithoutDeadline0, NoMiss, own, before, ticks, kernelRun, zeroRun, DifferOnlyInExecutionAndPriority, recordsIn, Called, ticksOf, allRecords, lastState, Service, CallReads, ServiceReads, ReadsBefore, ShowSame}
+use Rattle.zero.specs.Zero.{WithoutDeadline0, NoMiss, own, before, ticks, kernelRun, zeroRun, DifferOnlyInExecutionAndPriority, Called, ticksOf, allRecords, lastState, Service, CallReads, ServiceReads, ReadsBefore, ShowSame}
 use Rattle.zero.proofs.Plain.{Shows}
 use Rattle.zero.proofs.Same.{zero-same}
 use Rattle.zero.proofs.Calls.{call-state, call-trace, call-records, calls-state, calls-records, calls-traces, started-good, started-fresh}

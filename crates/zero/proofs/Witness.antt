@@ -17,7 +17,7 @@ use Rattle.plan.specs.File.{taskOf, planOf, taskAt, allOutputs}
 use Rattle.plan.specs.Order.{withPriority, inOrder, order}
 use Rattle.plan.specs.Rules.{chained, transitionsRule, taskRules, allNew, afterAll, clashRules, planRules, planVerdict}
 use Rattle.events.specs.Events.{eventRules, passed}
-use Rattle.trace.specs.Trace.{missKind, lines, traceAfter}
+use Rattle.trace.specs.Trace.{missKind, lines, traceAfter, recordsIn}
 use Rattle.trace.specs.declared.Entry.{Entry}
 use Rattle.body.specs.Body.{inTurn, sooner, after, move, doAction, supervise, control, body}
 use Rattle.state.specs.State.{freshTask, fresh, sized}
@@ -27,7 +27,7 @@ use Rattle.tick.specs.Turns.{writesOf, deadlineOf, requests, periodicCall, even
 use Rattle.tick.specs.Tick.{writeAll, each, eventsAt, setNow, better, mostUrgent, visitIf, tick, zeroTick}
 use Rattle.kernel.specs.Call.{Starts, Runs, call, runRoom, Ran}
 use Rattle.kernel.specs.declared.Started.{Started}
-use Rattle.zero.specs.Zero.{WithoutDeadline0, NoMiss, before, ticks, zeroRun, TaskAlike, DifferOnlyInExecutionAndPriority, recordsIn, Called, recordsOf, InTurn, ticksOf, allRecords, lastState, Service, CallReads, ServiceReads, ReadsBefore, ShowSame}
+use Rattle.zero.specs.Zero.{WithoutDeadline0, NoMiss, before, ticks, zeroRun, TaskAlike, DifferOnlyInExecutionAndPriority, Called, recordsOf, InTurn, ticksOf, allRecords, lastState, Service, CallReads, ServiceReads, ReadsBefore, ShowSame}
 use Rattle.zero.proofs.Lists.{noMiss-left}
 use Rattle.zero.proofs.Theorems.{one-call, many-calls, before-a-miss, two-plans}
 

@@ -4,13 +4,13 @@ use mathlib.Core.Path.{_≡_}
 use mathlib.Core.Logic.{_≢_}
 use mathlib.Core.Bool.{cond}
 use mathlib.Core.List.{List, [], _∷_, _++_}
-use lib.ListN.{length, drop}
+use lib.ListN.{length}
 use lib.Dec.{ltb, eqb}
 use Rattle.lists.specs.Lists.{Every}
 use Rattle.answers.specs.Answers.{said}
-use Rattle.plan.specs.File.{word, Task, Plan, planOf, taskAt}
+use Rattle.plan.specs.File.{Task, Plan, planOf, taskAt}
 use Rattle.events.specs.Events.{eventsOf}
-use Rattle.trace.specs.Trace.{missKind, traceAfter}
+use Rattle.trace.specs.Trace.{missKind, traceAfter, recordsIn}
 use Rattle.trace.specs.declared.Entry.{Entry}
 use Rattle.state.specs.State.{fresh}
 use Rattle.state.specs.declared.State.{State}
@@ -72,13 +72,6 @@ pub record DifferOnlyInExecutionAndPriority (plan other : Plan) : Type 0 where
   pub tasks : (i : ℕ) → i < length (plan .tasks) → TaskAlike (taskAt plan i) (taskAt other i)
 
 -- ---- what the entries give
--- "Records of five words: instant, kind, task, signal, value, from the trace's start": the first n of a trace
-unfoldable pub recordsIn : List ℕ → ℕ → List Entry
-recordsIn trace zero = []
-recordsIn trace (suc n) =
-    record { instant = word trace 0; kind = word trace 1; task = word trace 2; signal = word trace 3; value = word trace 4 }
-    ∷ recordsIn (drop 5 trace) n
-
 -- one call of the run entry: the ticks asked, the trace as it was lent and as it was left, and what came back
 pub record Called : Type 0 where
   pub asked : ℕ
