@@ -3,7 +3,8 @@
 ghost use Rattle.kernel.specs.Call.{startState, Runs};
 use kernel::Outcome;
 
-// A refused plan comes back from `run` with its number: the all-zero state is not asked for before the plan.
+// Where the plan is refused, the fresh start answers the all-zero state. It is handed on all the same: `run` asks the plan before
+// the state, and answers with the plan's number.
 pub fn shift(plan: &[u8], events: &[u8], ticks: u32, trace: &mut [u32]) -> Outcome
     ensures { λ r. ⌜ Runs (now (plan .entry)) (now (events .entry)) (startState (now (plan .entry))) ticks (now (trace .entry)) (now (trace .exit)) r ⌝ }
 {
