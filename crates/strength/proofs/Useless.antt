@@ -15,7 +15,7 @@ use Rattle.plan.specs.File.{taskOf, planOf, allOutputs}
 use Rattle.plan.specs.Order.{withPriority, inOrder, order}
 use Rattle.plan.specs.Rules.{chained, transitionsRule, taskRules, allNew, afterAll, clashRules, planRules, planVerdict}
 use Rattle.events.specs.Events.{eventRules, passed}
-use Rattle.trace.specs.Trace.{lines, traceAfter}
+use Rattle.trace.specs.Trace.{lines, traceAfter, recordsIn}
 use Rattle.body.specs.Body.{inTurn, sooner, after, move, doAction, supervise, control, body}
 use Rattle.state.specs.State.{freshTask, fresh, sized}
 use Rattle.state.specs.declared.State.{State}
@@ -25,7 +25,7 @@ use Rattle.tick.specs.Tick.{writeAll, each, eventsAt, setNow, better, mostUrgen
 use Rattle.kernel.specs.Call.{startState, Starts, Ran, runRoom, call, Runs}
 use Rattle.kernel.specs.declared.Started.{Started}
 use Rattle.kernel.specs.declared.Outcome.{Outcome}
-use Rattle.zero.specs.Zero.{ticks, zeroRun, recordsIn, CallReads}
+use Rattle.zero.specs.Zero.{ticks, zeroRun, CallReads}
 use Rattle.marked.specs.Marked.{traceWords, bytesOf, inARow, taskWords, contents, fileOf, task0, task1, sample, Marked, p1, p2, p6}
 use Rattle.strength.specs.Strength.{one, other, RunsFresh, Counts, Kernel, ranOn, leftOn, MeetsOn, RefusesEveryPlan, RefusesEveryRun, FixedTrace, PassesTheState, CopiesAfterTheFirst, CopiesLater, speaks, Silent}
 
