@@ -8,8 +8,9 @@ use lib.ListN.{length, length-set}
 use lib.Dec.{leb}
 use borrow.Author.Tests.{leb-true}
 use Rattle.limits.specs.Limits.{topValue}
-use Rattle.lists.specs.Lists.{tab}
+use Rattle.lists.specs.Lists.{tab, Every}
 use Rattle.lists.proofs.Laws.{tab-more, tab-done, and-right}
+use Rattle.lists.proofs.Tests.{every-all}
 use Rattle.plan.specs.File.{Action, Task}
 use Rattle.body.specs.Body.{inTurn, move, doAction, perform, runActions, supervise, control, body}
 use Rattle.body.specs.declared.Result.{Result}
@@ -25,10 +26,11 @@ module _ {A B : Type 0} (step : A → B → B) (f : ℕ → A) (n j : ℕ) (hand
   turn-done h = rw (tab-done f n j h)
 
 -- ---- what each step keeps, all of them keep
-pub turn-keeps : {A B : Type 0} (P : B → Type 0) (step : A → B → B) → ((x : A) (b : B) → P b → P (step x b)) → (xs : List A) (b : B) → P b → P (inTurn step xs b)
+pub turns-keep : {A B : Type 0} (P : B → Type 0) (Q : A → Type 0) (step : A → B → B) → ((x : A) (b : B) → Q x → P b → P (step x b))
+    → (xs : List A) (b : B) → Every Q xs → P b → P (inTurn step xs b)
 unfolding inTurn
-turn-keeps P step f [] b p = p
-turn-keeps P step f (x ∷ xs) b p = turn-keeps P step f xs (step x b) (f x b p)
+turns-keep P Q step f [] b q p = p
+turns-keep P Q step f (x ∷ xs) b q p = turns-keep P Q step f xs (step x b) (q .1) (f x b (q .0) p)
 
 -- ---- where b can take m, the sum is a value
 pub room : (m x sum : ℕ) → (leb m x && leb sum topValue) ≡ true → sum < 2 ^ 32
@@ -53,7 +55,8 @@ action-length latched x held = simp (length-cond, length-set, move-length, cond-
 
 actions-length : (latched : List ℕ) (state : ℕ) (xs : List Action) (held : List ℕ) → length (runActions latched state xs held) ≡ length held
 actions-length latched state xs held =
-    turn-keeps (λ l. length l ≡ length held) (perform latched state) (λ x l p. simp (length-cond, action-length, cond-same) p) xs held refl
+    turns-keep (λ l. length l ≡ length held) (λ x. Unit {0}) (perform latched state) (λ x l q p. simp (length-cond, action-length, cond-same) p) xs held
+    (every-all (λ x. Unit {0}) xs (λ x. tt)) refl
 
 result-length : (b : Bool) (u v : Result) → length (cond b u v .held) ≡ cond b (length (u .held)) (length (v .held))
 result-length true u v = refl

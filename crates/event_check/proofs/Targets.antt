@@ -19,6 +19,7 @@ use Rattle.plan.specs.File.{word, signalCount, taskCount, bodyOf, Task, taskOf,
 use Rattle.plan.specs.Rules.{planVerdict}
 use Rattle.plan.proofs.Laws.{signals-length, tasks-length}
 use Rattle.plan.proofs.Acceptance.{accepted-exactly}
+use Rattle.plan.proofs.Facts.{task-is}
 use Rattle.plan_check.specs.Clash.{markAll}
 use Rattle.plan_check.proofs.Written.{signals-small, written-marks}
 use Rattle.events.specs.Events.{Event, releaseEventRule, setEventRule, contentRule, instantRule, eventSizeRule, oneEvent, eventRules, eventsOf, eventListRules, eventsVerdict}
@@ -30,13 +31,6 @@ rules-same : (g h : Event → Bool) → ((e : Event) → g e ≡ h e) → (i las
 unfolding eventRules
 rules-same g h same i last [] = refl
 rules-same g h same i last (e ∷ es) = rw (same e, rules-same g h same (i + 1) (e .instant) es)
-
--- task i of a plan, by its body
-pub task-is : (bytes : List ℕ) (i : ℕ) → i < taskCount (wordsOf bytes) → taskAt (planOf bytes) i ≡ taskOf (bodyOf (wordsOf bytes) (i + 1))
-unfolding planOf
-task-is bytes i h =
-    rw (map-tab taskOf (λ j. bodyOf (wordsOf bytes) (j + 1)) 0 (taskCount (wordsOf bytes)))
-    (getD-tab (λ j. taskOf (bodyOf (wordsOf bytes) (j + 1))) noTask 0 (taskCount (wordsOf bytes)) i h ∙ ap (λ (j : ℕ). taskOf (bodyOf (wordsOf bytes) (j + 1))) (zero-add i))
 
 -- a test behind one that says when it counts
 behind : (a t p q v : Bool) → (t ≡ true → p ≡ q) → (((a && t) && p) && v) ≡ (((a && t) && q) && v)

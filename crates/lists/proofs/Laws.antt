@@ -1,15 +1,15 @@
 -- Laws of lists read off by a rule, and of tests joined by 'and'.
-use Prim.Native.Nat.{ℕ, zero, suc, _+_, _-_, _<_, _≤_}
+use Prim.Native.Nat.{ℕ, zero, suc, _+_, _-_, _<_, _≤_, min}
 use mathlib.Core.Path.{_≡_, refl, ap, sym, _∙_}
 use mathlib.Core.Bool.{Bool, true, false, cond, not, _&&_, false≢true}
 use mathlib.Core.List.{List, [], _∷_, _++_, map, append-assoc}
 use native.Mathlib.Omega.{arith}
 use native.Mathlib.Numerals.{add-one}
 use native.Mathlib.Nat.{zero-add, sub-zero, zero-sub, suc-sub-suc}
-use lib.ListN.{length, getD, set, take, drop, replicate, length-replicate, drop-of-length-le}
-use lib.Seq.{sets, sets-eq, set-at, drop-cons, take-append-add}
+use lib.ListN.{length, getD, set, take, drop, replicate, length-replicate, length-set, drop-of-length-le}
+use lib.Seq.{sets, sets-eq, set-at, drop-cons, take-append-add, take-nil, drop-nil, getD-set-other}
 use lib.Dec.{eqb}
-use Rattle.lists.specs.Lists.{tab, all, absent}
+use Rattle.lists.specs.Lists.{tab, all, PaddedFrom}
 
 -- ---- counts: k done of n
 pub more : (n k : ℕ) → k < n → n - k ≡ suc (n - (k + 1))
@@ -48,6 +48,31 @@ pub tab-same : {A : Type 0} (f g : ℕ → A) (k n : ℕ) → ((i : ℕ) → f i
 unfolding tab
 tab-same f g k zero h = refl
 tab-same f g k (suc n) h = rw (h k, tab-same f g (k + 1) n h)
+
+-- one of a list whose members are read off another
+pub map-in : {A B : Type 0} (f : A → B) (xs : List A) (i : ℕ) (d : A) (e : B) → i < length xs → getD (map f xs) i e ≡ f (getD xs i d)
+map-in f [] i d e h = absurd (omega arith)
+map-in f (x ∷ xs) zero d e h = refl
+map-in f (x ∷ xs) (suc i) d e h = map-in f xs i d e (omega arith)
+
+-- ---- cut to what there is, a part is the same
+pub cut-drop : {A : Type 0} (n : ℕ) (l : List A) → drop (min n (length l)) l ≡ drop n l
+cut-drop n [] = drop-nil (min n 0) ∙ sym (drop-nil n)
+cut-drop zero (x ∷ l) =
+    let e : min 0 (suc (length l)) ≡ 0 = omega arith in
+    rw e
+cut-drop (suc n) (x ∷ l) =
+    let e : min (suc n) (suc (length l)) ≡ suc (min n (length l)) = omega arith in
+    rw e (cut-drop n l)
+
+pub cut-take : {A : Type 0} (n : ℕ) (l : List A) → take (min n (length l)) l ≡ take n l
+cut-take n [] = take-nil (min n 0) ∙ sym (take-nil n)
+cut-take zero (x ∷ l) =
+    let e : min 0 (suc (length l)) ≡ 0 = omega arith in
+    rw e
+cut-take (suc n) (x ∷ l) =
+    let e : min (suc n) (suc (length l)) ≡ suc (min n (length l)) = omega arith in
+    rw (e, cut-take n l)
 
 -- ---- tests joined by 'and'
 pub and-left : (a b : Bool) → (a && b) ≡ true → a ≡ true
@@ -128,3 +153,8 @@ sets-zeros n xs h =
     sets-eq xs (replicate n 0) 0 (rw (length-replicate {A = ℕ} n 0) (omega arith))
     ∙ ap (λ (l : List ℕ). xs ++ l) (rw (zero-add (length xs)) (drop-replicate 0 (length xs) n ∙ sym (take-replicate 0 (n - length xs) n (omega arith))))
     ∙ sym (ap (λ (k : ℕ). take k (xs ++ replicate n 0)) e ∙ take-append-add xs (replicate n 0) (n - length xs))
+
+-- a place below n is set
+pub set-padded : (n count : ℕ) (xs : List ℕ) (a v : ℕ) → a < n → PaddedFrom n count xs → PaddedFrom n count (set xs a v)
+set-padded n count xs a v l h =
+    record { size = length-set xs a v ∙ h .size; zeros = λ i from. getD-set-other xs a i v 0 (λ e. absurd (omega arith)) ∙ h .zeros i from }

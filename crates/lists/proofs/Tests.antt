@@ -1,15 +1,15 @@
 -- Tests and what they say, both ways: for `simp`, which takes a rule apart or puts it together by these.
-use Prim.Native.Nat.{ℕ, zero, suc, _<_, _≤_}
-use mathlib.Core.Path.{_≡_, refl, sym, _∙_}
+use Prim.Native.Nat.{ℕ, zero, suc, _+_, _<_, _≤_}
+use mathlib.Core.Path.{_≡_, refl, sym, _∙_, subst}
 use mathlib.Core.Bool.{Bool, true, false, cond, not, _&&_, _||_, false≢true}
 use mathlib.Core.Logic.{_↔_, _≢_, _⊎_, inl, inr, Iff·trans}
 use mathlib.Core.List.{List, [], _∷_, _++_, map}
 use native.Mathlib.Omega.{arith}
 use native.Mathlib.Nat.{eq-or-lt-of-le}
-use lib.ListN.{length, getD}
+use lib.ListN.{length, getD, replicate}
 use lib.Dec.{eqb, ltb, leb}
 use borrow.Author.Tests.{ltb-true, ltb-false, leb-true, lt-ltb, le-leb, eqb-true, eqb-false, eq-eqb, ne-eqb, not-true}
-use Rattle.lists.specs.Lists.{all, absent, Every, Pairwise}
+use Rattle.lists.specs.Lists.{tab, all, absent, Every, Pairwise, In}
 
 pub and-iff : (a b : Bool) → ((a && b) ≡ true) ↔ ((a ≡ true) × (b ≡ true))
 and-iff true b = ((λ e. (refl, e)), (λ p. p .1))
@@ -173,3 +173,53 @@ pairwise-append R (x ∷ xs) ys h =
     let e = every-append (R x) xs ys (h .0) in
     let r = pairwise-append R xs ys (h .1) in
     ((e .0, r .0), r .1, (e .1, r .2))
+
+-- what holds of each of two lists holds of each of both, one after the other
+pub every-join : {A : Type 0} (P : A → Type 0) (xs ys : List A) → Every P xs → Every P ys → Every P (xs ++ ys)
+every-join P [] ys h g = g
+every-join P (x ∷ xs) ys h g = (h .0, every-join P xs ys (h .1) g)
+
+-- ---- what follows of each follows of all
+pub every-weaker : {A : Type 0} (P Q : A → Type 0) → ((x : A) → P x → Q x) → (xs : List A) → Every P xs → Every Q xs
+every-weaker P Q f [] h = tt
+every-weaker P Q f (x ∷ xs) h = (f x (h .0), every-weaker P Q f xs (h .1))
+
+-- what holds at each place holds of each
+pub every-from : {A : Type 0} (P : A → Type 0) (d : A) (xs : List A) → ((i : ℕ) → i < length xs → P (getD xs i d)) → Every P xs
+every-from P d [] f = tt
+every-from P d (x ∷ xs) f = (f 0 (omega arith), every-from P d xs (λ i l. f (suc i) (omega arith)))
+
+-- values that differ at any two places
+pub pairwise-from : (xs : List ℕ) → ((i j : ℕ) → i < length xs → j < length xs → getD xs i 0 ≡ getD xs j 0 → i ≡ j) → Pairwise _≢_ xs
+pairwise-from [] f = tt
+pairwise-from (x ∷ xs) f = (
+  every-from (λ y. x ≢ y) 0 xs (λ j l e. absurd (let z = f 0 (suc j) (omega arith) (omega arith) e in omega arith)),
+  pairwise-from xs (λ i j a b e. let z = f (suc i) (suc j) (omega arith) (omega arith) e in omega arith),
+)
+
+-- what holds of each of a list holds of one that stands in it
+pub in-every : (P : ℕ → Type 0) (a : ℕ) (xs : List ℕ) → Every P xs → In a xs → P a
+in-every P a [] h i = absurd i
+in-every P a (x ∷ xs) h (inl e) = subst P (sym e) (h .0)
+in-every P a (x ∷ xs) h (inr i) = in-every P a xs (h .1) i
+
+-- of one thing, so many times
+pub every-replicate : {A : Type 0} (P : A → Type 0) (n : ℕ) (x : A) → P x → Every P (replicate n x)
+every-replicate P zero x h = tt
+every-replicate P (suc n) x h = (h, every-replicate P n x h)
+
+-- ---- of a list that is read off by a rule
+pub every-tab : {A : Type 0} (P : A → Type 0) (f : ℕ → A) (k n : ℕ) → ((j : ℕ) → k ≤ j → j < k + n → P (f j)) → Every P (tab f k n)
+unfolding tab
+every-tab P f k zero h = tt
+every-tab P f k (suc n) h = (h k (omega arith) (omega arith), every-tab P f (k + 1) n (λ j low high. h j (omega arith) (omega arith)))
+
+-- and the other way round
+pub tab-every : {A : Type 0} (P : A → Type 0) (f : ℕ → A) (k n : ℕ) → Every P (tab f k n) → (j : ℕ) → k ≤ j → j < k + n → P (f j)
+unfolding tab
+tab-every P f k zero h j low high = absurd (omega arith)
+tab-every P f k (suc n) h j low high = go (same-or-not j k) (λ l. tab-every P f (k + 1) n (h .1) j l (omega arith))
+  where
+    go : (j ≡ k) ⊎ (j ≢ k) → (k + 1 ≤ j → P (f j)) → P (f j)
+    go (inl e) later = subst (λ i. P (f i)) (sym e) (h .0)
+    go (inr d) later = later (omega (arith, d))

@@ -1,8 +1,11 @@
 -- Lists and tests that the papers' words come down to.
 use Prim.Native.Nat.{ℕ, zero, suc, _+_, _≤_}
+use mathlib.Core.Path.{_≡_}
+use mathlib.Core.Logic.{_⊎_}
 use mathlib.Core.Bool.{Bool, true, false, not, _&&_}
 use mathlib.Core.List.{List, [], _∷_}
-use lib.ListN.{take, drop}
+use mathlib.Core.Option.{Option, none, some}
+use lib.ListN.{length, getD, take, drop}
 use lib.Dec.{leb, eqb}
 
 -- f i, f (i + 1), .., n of them
@@ -42,3 +45,18 @@ Every P (x ∷ xs) = P x × Every P xs
 abbrev pub Pairwise : {A : Type 0} → (A → A → Type 0) → List A → Type 0
 Pairwise R [] = Unit {0}
 Pairwise R (x ∷ xs) = Every (R x) xs × Pairwise R xs
+
+-- x stands in a list
+abbrev pub In : ℕ → List ℕ → Type 0
+In x [] = ⊥
+In x (y ∷ ys) = (x ≡ y) ⊎ In x ys
+
+-- P holds of the one that there is, if any
+abbrev pub If : {A : Type 0} → (A → Type 0) → Option A → Type 0
+If P none = Unit {0}
+If P (some x) = P x
+
+-- so many values, of which those from place n on are 0
+pub record PaddedFrom (n count : ℕ) (xs : List ℕ) : Type 0 where
+  pub size : length xs ≡ count
+  pub zeros : (i : ℕ) → n ≤ i → getD xs i 0 ≡ 0

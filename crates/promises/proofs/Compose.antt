@@ -17,13 +17,15 @@ use Rattle.state.specs.Fits.{fits}
 use Rattle.state.specs.declared.State.{State}
 use Rattle.state.proofs.Fitting.{fits-exactly}
 use Rattle.tick.specs.Tick.{Ticked, tick}
+use Rattle.tick.proofs.View.{next-tick}
 use Rattle.kernel.specs.Call.{callVerdict, Ran, stopped, onward, runRoom, call}
 use Rattle.kernel.proofs.Verdict.{state-decides}
 use Rattle.kernel.proofs.Ready.{events-good, plan-good, fitting, may-run}
 use Rattle.zero.specs.Zero.{ticks, Called, recordsOf}
-use Rattle.zero.proofs.Ticks.{ticks-state, ticks-entries}
+use Rattle.zero.proofs.Ticks.{ticks-state, ticks-entries, ticks-later}
 use Rattle.zero.proofs.Calls.{call-trace, call-records}
 use Rattle.promises.specs.Promises.{CalledFrom, AllRun, Composed}
+use Rattle.promises.specs.Theorems.{RunsCompose}
 
 -- ---- a run within a trace
 -- all n ticks, and their records
@@ -61,20 +63,13 @@ room-all step room (suc n) s h =
     rw (first, room-all step (room - 5 * length (step s .entries)) n (step s .state) (omega arith))
 
 -- ---- a call
--- each tick is one later
-tick-later : (step : State → Ticked) → ((s : State) → step s .state .tick ≡ s .tick + 1) → (n : ℕ) (s : State) → ticks step n s .state .tick ≡ s .tick + n
-unfolding ticks
-tick-later step f zero s = omega arith
-tick-later step f (suc n) s = let a = tick-later step f n (step s .state) in let b = f s in omega arith
-
 module _ (planBytes eventBytes : List ℕ) where
   abbrev step : State → Ticked
   step = tick (planOf planBytes) (eventsOf eventBytes)
 
   -- "the next tick's number"
   pub ticks-tick : (n : ℕ) (s : State) → ticks step n s .state .tick ≡ s .tick + n
-  unfolding tick
-  ticks-tick n s = tick-later step (λ x. refl) n s
+  ticks-tick n s = ticks-later step (next-tick (planOf planBytes) (eventsOf eventBytes)) n s
 
   module _ (s : State) where
     -- a call with number 0: no rule refuses it, and all records fit
@@ -170,8 +165,8 @@ module _ (planBytes eventBytes : List ℕ) where
     one-zero = ap (λ (v : Verdict). v .number) (runs .answer ∙ ap (λ (r : Ran). r .verdict) one-is)
 
     -- so the one call gave what the two gave
-    pub runs-compose : Composed first second one
-    runs-compose = record {
+    composed : Composed first second one
+    composed = record {
       answer = one-zero;
       state =
           called-state s one runs one-zero ∙ ap (λ (k : ℕ). ticks step k s .state) asked ∙ sym (ticks-state step (first .asked) (second .asked) s)
@@ -186,3 +181,7 @@ module _ (planBytes eventBytes : List ℕ) where
           call-trace planBytes eventBytes s (one .asked) (one .lent) (one .left) (one .outcome) runs
           ∙ ap (λ es. traceAfter es (one .lent)) (ap (λ (k : ℕ). ticks step k s .entries) (called-ticks s one runs one-zero) ∙ sym joined);
     }
+
+pub runs-compose : RunsCompose
+runs-compose planBytes eventBytes s first second one asked runs₁ all₁ runs₂ all₂ runs room =
+    composed planBytes eventBytes s first second one asked runs₁ all₁ runs₂ all₂ runs room

@@ -1,40 +1,35 @@
 -- A move is seen whole or not at all: from a fresh start, after every tick of every run, misses or not, listed outputs that only
 -- moves touch add up to what they were at first. So 'the east safe debited and the west safe not yet credited' is never what a
 -- reader of the signals sees.
-use Prim.Native.Nat.{ℕ, _-_, _<_}
+use Prim.Native.Nat.{ℕ, _<_}
 use mathlib.Core.Path.{_≡_, _∙_, subst, subst⁻¹}
-use mathlib.Core.Logic.{_≢_}
-use mathlib.Core.Bool.{Bool, true, false, cond}
+use mathlib.Core.Logic.{_≢_, _⊎_, inl, inr}
 use mathlib.Core.List.{List, []}
 use native.Mathlib.Omega.{arith}
 use native.Mathlib.Decide.{ℕ-discrete}
 use lib.ListN.{length, getD, set, length-set}
 use lib.Seq.{getD-set-other}
-use lib.Dec.{eqb}
 use Rattle.limits.specs.Limits.{maxSignals}
+use Rattle.lists.proofs.Tests.{every-weaker}
 use Rattle.plan.specs.File.{Task, Plan, planOf, taskAt}
 use Rattle.plan.specs.Rules.{planVerdict}
 use Rattle.plan.specs.Order.{order}
-use Rattle.plan.specs.Accepted.{Accepted}
-use Rattle.plan.proofs.Facts as plans
 use Rattle.plan.proofs.Order.{order-below}
+use Rattle.plan.proofs.Tasks.{in-plan, body-of, few-outputs, outputs-below, outputs-differ, output-apart}
 use Rattle.events.specs.Events.{Event, eventsOf}
 use Rattle.events.specs.Accepted.{Sets, AcceptedEvents}
+use Rattle.events.proofs.Sets.{each-sets}
 use Rattle.state.specs.State.{valueAt, stateAt}
-use Rattle.state.specs.declared.Status.{Status}
-use Rattle.state.specs.declared.Status.the-variants.{READY, ACTIVE, FINISHED, ERROR}
 use Rattle.state.specs.declared.TaskState.{TaskState}
 use Rattle.state.specs.declared.State.{State}
-use Rattle.tick.specs.Turns.{Turn, quiet, finish, writesOf, writeOut, atDeadline, deadlineOf, deadlineTurn, Call, released, overrun, ignored, callOf, waits, answer, releaseTurn, loses, runTurn}
-use Rattle.tick.specs.Tick.{Moment, writeAll, visit, eventsAt, setNow, deadlines, runs, tick}
-use Rattle.zero.proofs.Lists.{every-weaker}
-use Rattle.zero.proofs.Ahead.{Act}
+use Rattle.tick.specs.Turns.{Turn, finish, writesOf, deadlineTurn, release, waits, releaseTurn, runTurn}
+use Rattle.tick.specs.Tick.{Moment, Act, writeAll, visit, eventsAt, setNow, begins, deadlines, afterReleases, runs, tick}
+use Rattle.tick.proofs.Values.{SameValues, deadline-values, release-values, run-values, NothingWritten, AllWritten, deadline-writing, release-writing, run-writing}
+use Rattle.tick.proofs.Writes.{every-now, set-keeps, writes-none, written-length, unwritten, written}
+use Rattle.tick.proofs.Signals.{deadline-signals, release-signals, run-signals}
+use Rattle.tick.proofs.View.{each-keeps, runs-keeps, visit-same, visit-other, visit-length}
 use Rattle.promises.specs.Promises.{totalOf, OnlyMoves}
-use Rattle.promises.proofs.Tasks.{in-plan, body-of, few-outputs, outputs-below}
-use Rattle.promises.proofs.View.{each-keeps, runs-keeps, mid, visit-same, visit-other, visit-length}
-use Rattle.promises.proofs.Signals.{every-now, each-sets, set-keeps, deadline-writes, run-writes, release-writes}
 use Rattle.promises.proofs.Sums.{sum-same, Holds, body-holds}
-use Rattle.promises.proofs.Written.{written-length, unwritten, written, outputs-differ, output-apart}
 
 module _ (planBytes : List ℕ) (good : planVerdict planBytes .number ≡ 0) (i : ℕ) (li : i < length (planOf planBytes .tasks)) (ps : List ℕ)
     (only : OnlyMoves (taskAt (planOf planBytes) i) ps) where
@@ -44,10 +39,6 @@ module _ (planBytes : List ℕ) (good : planVerdict planBytes .number ≡ 0) (i 
   -- the task
   abbrev k : Task
   k = taskAt plan i
-
-  -- an accepted plan
-  accepted : Accepted planBytes
-  accepted = plans.accepted planBytes good
 
   -- what they add up to at first
   abbrev pub total : ℕ
@@ -73,7 +64,7 @@ module _ (planBytes : List ℕ) (good : planVerdict planBytes .number ≡ 0) (i 
   others-write : (j : ℕ) → j < length (plan .tasks) → i ≢ j → (held g : List ℕ) → Shown g → Shown (writeAll (writesOf (taskAt plan j .outputs) held) g)
   others-write j lj d held g h =
       shown-same g _ (written-length (taskAt plan j .outputs) held g)
-      (λ p l. unwritten (getD (k .outputs) p 0) (taskAt plan j .outputs) held g (output-apart planBytes accepted i j p (in-plan planBytes good i li) (in-plan planBytes good j lj) d l)) h
+      (λ p l. unwritten (getD (k .outputs) p 0) (taskAt plan j .outputs) held g (output-apart planBytes good i j p li lj d l)) h
 
   -- the task itself writes: all its held outputs, at once
   itself-writes : (held g : List ℕ) → Holds ps total held → Shown g → Shown (writeAll (writesOf (k .outputs) held) g)
@@ -86,7 +77,7 @@ module _ (planBytes : List ℕ) (good : planVerdict planBytes .number ≡ 0) (i 
         sum =
             sum-same (λ p. valueAt (writeAll (writesOf (k .outputs) held) g) (getD (k .outputs) p 0)) (λ p. getD held p 0) ps
             (every-weaker (λ p. p < length (k .outputs)) _
-            (λ p l. written (k .outputs) held g (outputs-differ planBytes accepted i (in-plan planBytes good i li)) (omega arith) (rw (h .size) (outputs-below planBytes good i li)) p l) ps (only .outputs))
+            (λ p l. written (k .outputs) held g (outputs-differ planBytes good i li) (omega arith) (rw (h .size) (outputs-below planBytes good i li)) p l) ps (only .outputs))
             ∙ a .sum;
       }
 
@@ -95,25 +86,30 @@ module _ (planBytes : List ℕ) (good : planVerdict planBytes .number ≡ 0) (i 
   abbrev Fine : Turn → List ℕ → Type 0
   Fine u g = Holds ps total (u .state .held) × Shown (writeAll (u .writes) g)
 
+  -- it writes nothing, or the held outputs that it leaves
+  turn-fine : (t : ℕ) (u : Turn) (g : List ℕ) {A : Type 0} → NothingWritten u ⊎ (A × AllWritten t i k u) → Holds ps total (u .state .held) → Shown g → Fine u g
+  turn-fine t u g (inl n) a h = (a, subst⁻¹ (λ ws. Shown (writeAll ws g)) (n .writes) (subst⁻¹ Shown (writes-none g) h))
+  turn-fine t u g (inr w) a h = (a, subst⁻¹ (λ ws. Shown (writeAll ws g)) (w .1 .writes) (itself-writes (u .state .held) g a h))
+
   module _ (x : TaskState) (g : List ℕ) (a : Holds ps total (x .held)) (h : Shown g) where
+    -- the same held outputs
+    kept : (y : TaskState) → SameValues x y → Holds ps total (y .held)
+    kept y e = subst⁻¹ (Holds ps total) (e .held) a
+
+    -- step 1
     deadline-fine : (t : ℕ) → Fine (deadlineTurn t i k x) g
-    unfolding deadlineOf writeAll
-    deadline-fine t = go (x .status) (atDeadline t k (x .release))
-      where
-        go : (p : Status) (b : Bool) → Fine (deadlineOf p b t i k x) g
-        go READY b = (a, h)
-        go ACTIVE true = (a, h)
-        go ACTIVE false = (a, h)
-        go FINISHED true = (a, itself-writes (x .held) g a h)
-        go FINISHED false = (a, h)
-        go ERROR b = (a, h)
+    deadline-fine t = turn-fine t _ g (deadline-writing t i k x) (kept _ (deadline-values t i k x)) h
 
     -- step 2
-    answer-fine : (t : ℕ) (signals : List ℕ) (c : Call) → Fine (answer waits t signals i k x c) g
-    unfolding answer writeAll
-    answer-fine t signals (released n) = (a, h)
-    answer-fine t signals overrun = (a, h)
-    answer-fine t signals (ignored n) = (a, h)
+    release-fine : (t : ℕ) (signals : List ℕ) (now : List Event) → Fine (releaseTurn waits t signals now i k x) g
+    release-fine t signals now = turn-fine t u g {A = Unit {0}} (inl (release-writing waits t signals now i k x)) (go (release-values waits t signals now i k x)) h
+      where
+        u : Turn
+        u = releaseTurn waits t signals now i k x
+
+        go : SameValues x (u .state) ⊎ (u .state ≡ waits k (release t signals k x)) → Holds ps total (u .state .held)
+        go (inl e) = kept (u .state) e
+        go (inr e) = subst⁻¹ (λ (y : TaskState). Holds ps total (y .held)) e a
 
     -- "its body runs once"
     finished : Holds ps total (finish k x .held)
@@ -121,13 +117,14 @@ module _ (planBytes : List ℕ) (good : planVerdict planBytes .number ≡ 0) (i 
 
     -- step 3
     run-fine : (t : ℕ) → Fine (runTurn t i k x) g
-    unfolding writeAll
-    run-fine t = go (eqb (x .remaining - 1) 0) (eqb (k .deadline) 0)
+    run-fine t = turn-fine t u g (run-writing t i k x) (go (run-values t i k x)) h
       where
-        go : (b c : Bool) → Fine (cond b (cond c (writeOut t i k (finish k x)) (quiet (finish k x))) (quiet (loses x))) g
-        go true true = (finished, itself-writes (finish k x .held) g finished h)
-        go true false = (finished, h)
-        go false c = (a, h)
+        u : Turn
+        u = runTurn t i k x
+
+        go : SameValues x (u .state) ⊎ SameValues (finish k x) (u .state) → Holds ps total (u .state .held)
+        go (inl e) = kept (u .state) e
+        go (inr e) = subst⁻¹ (Holds ps total) (e .held) finished
 
   -- ---- moments
   record Whole (m : Moment) : Type 0 where
@@ -187,20 +184,20 @@ module _ (planBytes : List ℕ) (good : planVerdict planBytes .number ≡ 0) (i 
     tick-whole s h =
         let t = s .tick in
         let m₁ = deadlines plan events s in
-        let w₀ : Whole (record { signals = setNow (eventsAt t events) (s .signals); tasks = s .tasks; entries = [] })
+        let w₀ : Whole (begins events s)
         = record { there = h .there; held = h .held; signals = set-shown t (s .signals) (record { size = h .size; sum = h .sum }) } in
         let w₁ : Whole m₁
         = each-keeps plan (deadlineTurn t) Whole (λ j. j < length (plan .tasks))
-        (visit-whole (deadlineTurn t) (λ x g a b. deadline-fine x g a b t) (λ j l d x g b. deadline-writes Shown t j (taskAt plan j) x g b (λ held. others-write j l d held g b)))
+        (visit-whole (deadlineTurn t) (λ x g a b. deadline-fine x g a b t) (λ j l d x g b. deadline-signals Shown t j (taskAt plan j) x g b (λ held. others-write j l d held g b)))
         (order plan) _ (order-below plan) w₀ in
-        let w₂ : Whole (mid plan events s)
+        let w₂ : Whole (afterReleases waits plan events s)
         = each-keeps plan (releaseTurn waits t (m₁ .signals) (eventsAt t events)) Whole (λ j. j < length (plan .tasks))
         (visit-whole (releaseTurn waits t (m₁ .signals) (eventsAt t events))
-        (λ x g a b. answer-fine x g a b t (m₁ .signals) (callOf t (eventsAt t events) i k (x .status)))
-        (λ j l d x g b. release-writes Shown waits t (m₁ .signals) j (taskAt plan j) x (callOf t (eventsAt t events) j (taskAt plan j) (x .status)) g b))
+        (λ x g a b. release-fine x g a b t (m₁ .signals) (eventsAt t events))
+        (λ j l d x g b. release-signals Shown t j (taskAt plan j) x g b waits (m₁ .signals) (eventsAt t events)))
         (order plan) m₁ (order-below plan) w₁ in
-        let w₃ : Whole (runs plan t (mid plan events s))
-        = runs-keeps plan t Whole (mid plan events s)
-        (λ j q w. visit-whole (runTurn t) (λ x g a b. run-fine x g a b t) (λ j l d x g b. run-writes Shown t j (taskAt plan j) x g b (λ held. others-write j l d held g b)) j (mid plan events s) (q .1) w)
+        let w₃ : Whole (runs plan t (afterReleases waits plan events s))
+        = runs-keeps plan t Whole (afterReleases waits plan events s)
+        (λ j q w. visit-whole (runTurn t) (λ x g a b. run-fine x g a b t) (λ j l d x g b. run-signals Shown t j (taskAt plan j) x g b (λ held. others-write j l d held g b)) j (afterReleases waits plan events s) (q .1) w)
         w₂ in
         record { there = w₃ .there; held = w₃ .held; size = w₃ .signals .size; sum = w₃ .signals .sum }

@@ -7,14 +7,13 @@ use native.Mathlib.Omega.{arith}
 use lib.ListN.{length, getD, set, length-set}
 use lib.Seq.{getD-set-other, getD-set-same}
 use Rattle.limits.specs.Limits.{maxPorts}
-use Rattle.lists.specs.Lists.{Every, Pairwise}
-use Rattle.lists.proofs.Tests.{every-both}
+use Rattle.lists.specs.Lists.{Every, Pairwise, In}
+use Rattle.lists.proofs.Tests.{every-both, every-weaker, in-every}
 use Rattle.plan.specs.File.{Action, Task}
 use Rattle.plan.specs.Accepted.{ActionGood, Body}
 use Rattle.body.specs.Body.{input, doAction, body}
-use Rattle.zero.proofs.Lists.{every-weaker}
-use Rattle.promises.specs.Promises.{sumOf, In, MovesWithin, Elsewhere, OnlyMoves}
-use Rattle.promises.proofs.Bodies.{Moved, unmoved, moved, Acted, sets, moves, action-is, body-keeps}
+use Rattle.promises.specs.Promises.{sumOf, MovesWithin, Elsewhere, OnlyMoves}
+use Rattle.body.proofs.Keeps.{Moved, unmoved, moved, Acted, sets, moves, action-is, body-keeps}
 
 -- ---- sums
 -- the same values, the same sum
@@ -22,12 +21,6 @@ pub sum-same : (f g : ℕ → ℕ) (ps : List ℕ) → Every (λ p. f p ≡ g p)
 unfolding sumOf
 sum-same f g [] h = refl
 sum-same f g (p ∷ ps) h = ap₂ _+_ (h .0) (sum-same f g ps (h .1))
-
--- what holds of each of a list holds of one that stands in it
-pub in-every : (P : ℕ → Type 0) (a : ℕ) (ps : List ℕ) → Every P ps → In a ps → P a
-in-every P a [] h i = absurd i
-in-every P a (p ∷ ps) h (inl e) = subst P (sym e) (h .0)
-in-every P a (p ∷ ps) h (inr i) = in-every P a ps (h .1) i
 
 -- the listed places of a list, added
 abbrev pub heldSum : List ℕ → List ℕ → ℕ

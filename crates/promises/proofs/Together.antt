@@ -1,54 +1,51 @@
 -- A task's write records of one execution stand together, at one instant, one for each output in position order; and the signals
 -- that it writes change all at once.
-use Prim.Native.Nat.{ℕ, zero, suc, _+_, _-_, _≤_, _<_}
+use Prim.Native.Nat.{ℕ, suc, _+_, _≤_, _<_}
 use mathlib.Core.Path.{_≡_, refl, sym, _∙_, ap, ap₂, subst, subst⁻¹}
 use mathlib.Core.Logic.{_≢_, _⊎_, inl, inr}
-use mathlib.Core.Bool.{Bool, true, false, cond, not}
-use mathlib.Core.List.{List, [], _∷_, _++_, map, append-assoc, append-nil}
+use mathlib.Core.Bool.{Bool, true, false}
+use mathlib.Core.List.{List, [], _∷_, _++_, append-assoc, append-nil}
 use mathlib.Core.Option.{Option, none, some}
 use native.Mathlib.Omega.{arith}
 use native.Mathlib.Nat.{zero-add}
 use native.Mathlib.Decide.{ℕ-discrete}
-use lib.ListN.{length, getD, set, length-set, replicate}
+use lib.ListN.{length, getD, set, length-set}
 use lib.Seq.{getD-set-other}
 use lib.Dec.{eqb}
 use borrow.Author.Tests.{eqb-true, eqb-false}
-use Rattle.limits.specs.Limits.{maxPorts, maxSignals, maxPriority, maxTime}
-use Rattle.lists.specs.Lists.{tab, Every, Pairwise, Between}
-use Rattle.lists.proofs.Laws.{and-left}
-use Rattle.lists.proofs.Tests.{every-at, every-both, not-iff}
+use Rattle.limits.specs.Limits.{maxPorts, maxSignals, maxTime}
+use Rattle.lists.specs.Lists.{tab, Every, Pairwise, If}
+use Rattle.lists.proofs.Tests.{every-at, every-both, every-weaker, every-join}
 use Rattle.plan.specs.File.{Task, Plan, planOf, taskAt}
 use Rattle.plan.specs.Rules.{planVerdict}
-use Rattle.plan.specs.Order.{numbers, order}
-use Rattle.plan.specs.Accepted.{Accepted, Timing}
-use Rattle.plan.proofs.Facts as plans
-use Rattle.plan.proofs.Order.{order-below, order-distinct}
+use Rattle.plan.specs.Order.{order}
+use Rattle.plan.proofs.Order.{order-below}
+use Rattle.plan.proofs.Tasks.{few-tasks, order-once, in-plan, few-outputs, outputs-below, outputs-differ, output-apart}
 use Rattle.events.specs.Events.{Event, eventsOf}
 use Rattle.events.specs.Accepted.{Sets, AcceptedEvents}
+use Rattle.events.proofs.Sets.{each-sets}
 use Rattle.trace.specs.Trace.{writeKind, writeEntry}
 use Rattle.trace.specs.declared.Entry.{Entry}
 use Rattle.state.specs.State.{valueAt, stateAt, nowhere}
 use Rattle.state.specs.Fitting.{SizedTask, Fits}
-use Rattle.state.specs.declared.Status.{Status}
-use Rattle.state.specs.declared.Status.the-variants.{READY, ACTIVE, FINISHED, ERROR}
 use Rattle.state.specs.declared.TaskState.{TaskState}
 use Rattle.state.specs.declared.State.{State}
-use Rattle.tick.specs.Turns.{Write, Turn, quiet, finish, writesOf, writeOut, atDeadline, deadlineOf, deadlineTurn, Call, released, overrun, ignored, callOf, waits, answer, releaseTurn, loses, runTurn}
-use Rattle.tick.specs.Tick.{Moment, writeAll, visit, each, eventsAt, setNow, deadlines, releases, running, visitIf, runs, tick}
-use Rattle.zero.proofs.Lists.{every-weaker, every-join, each-task}
-use Rattle.zero.proofs.Ahead.{Act}
+use Rattle.tick.specs.Turns.{Turn, writesOf, deadlineTurn, waits, releaseTurn, runTurn}
+use Rattle.tick.specs.Tick.{Moment, Act, writeAll, visit, each, eventsAt, begins, deadlines, releases, afterReleases, running, visitIf, runs, tick}
+use Rattle.tick.proofs.Values.{writeEntries, NothingWritten, AllWritten, deadline-values, deadline-writing, release-writing, run-writing}
+use Rattle.tick.proofs.Records.{deadline-every, run-every}
+use Rattle.tick.proofs.Writes.{every-now, set-keeps, writes-none, written-length, unwritten, written}
+use Rattle.tick.proofs.Signals.{deadline-signals, run-signals}
+use Rattle.tick.proofs.Urgent.{Runnable, running-is}
+use Rattle.tick.proofs.View.{each-keeps, runs-keeps, released-length, visit-same, visit-other}
 use Rattle.promises.specs.Promises.{NoWrite, writeRecords, Together, heldFor, AtOnce, nothing, everything}
-use Rattle.promises.proofs.Tasks.{few-tasks, in-plan, few-outputs, outputs-below}
-use Rattle.promises.proofs.View.{If, Runnable, running-is, each-keeps, runs-keeps, mid, mid-length, visit-same, visit-other}
-use Rattle.promises.proofs.Signals.{every-now, each-sets, set-keeps}
-use Rattle.promises.proofs.Fitted.{tick-fits}
-use Rattle.promises.proofs.Written.{written-length, unwritten, written, outputs-differ, output-apart}
+use Rattle.promises.proofs.Fitted.{tick-fitting}
 
 -- ---- records
 -- the records of writes are one for each output, in position order
 writes-are : (t i a : ℕ) (f g : ℕ → ℕ) (outs held : List ℕ) → length outs ≤ length held
     → ((p : ℕ) → p < length outs → getD outs p 0 ≡ f (a + p)) → ((p : ℕ) → p < length outs → getD held p 0 ≡ g (a + p))
-    → map (λ w. writeEntry t i (w .signal) (w .value)) (writesOf outs held) ≡ tab (λ p. writeEntry t i (f p) (g p)) a (length outs)
+    → writeEntries t i (writesOf outs held) ≡ tab (λ p. writeEntry t i (f p) (g p)) a (length outs)
 unfolding writesOf tab
 writes-are t i a f g [] held few ef eg = refl
 writes-are t i a f g (y ∷ ys) [] few ef eg = absurd (omega arith)
@@ -59,16 +56,6 @@ writes-are t i a f g (y ∷ ys) (v ∷ vs) few ef eg =
     (λ p l. let w : a + suc p ≡ a + 1 + p = omega arith in ef (suc p) (omega arith) ∙ ap f w)
     (λ p l. let w : a + suc p ≡ a + 1 + p = omega arith in eg (suc p) (omega arith) ∙ ap g w))
 
--- write records of another task
-other-writes : (t i j : ℕ) (ws : List Write) → j ≢ i → NoWrite i (map (λ w. writeEntry t j (w .signal) (w .value)) ws)
-other-writes t i j [] d = tt
-other-writes t i j (w ∷ ws) d = ((λ e. d), other-writes t i j ws d)
-
--- a record of another kind, repeated
-same-none : (i n : ℕ) (e : Entry) → e .kind ≢ writeKind → NoWrite i (replicate n e)
-same-none i zero e d = tt
-same-none i (suc n) e d = ((λ z. absurd (d z)), same-none i n e d)
-
 module _ (planBytes : List ℕ) (good : planVerdict planBytes .number ≡ 0) (i : ℕ) (li : i < length (planOf planBytes .tasks)) where
   abbrev plan : Plan
   plan = planOf planBytes
@@ -76,10 +63,6 @@ module _ (planBytes : List ℕ) (good : planVerdict planBytes .number ≡ 0) (i 
   -- the task
   abbrev k : Task
   k = taskAt plan i
-
-  -- an accepted plan
-  accepted : Accepted planBytes
-  accepted = plans.accepted planBytes good
 
   -- the signals that the task writes have values of a rule
   record Values (f : ℕ → ℕ) (g : List ℕ) : Type 0 where
@@ -95,7 +78,7 @@ module _ (planBytes : List ℕ) (good : planVerdict planBytes .number ≡ 0) (i 
   others-write : (j : ℕ) → j < length (plan .tasks) → i ≢ j → (f : ℕ → ℕ) (held g : List ℕ) → Values f g → Values f (writeAll (writesOf (taskAt plan j .outputs) held) g)
   others-write j lj d f held g h =
       values-same f g _ (written-length (taskAt plan j .outputs) held g)
-      (λ p l. unwritten (getD (k .outputs) p 0) (taskAt plan j .outputs) held g (output-apart planBytes accepted i j p (in-plan planBytes good i li) (in-plan planBytes good j lj) d l)) h
+      (λ p l. unwritten (getD (k .outputs) p 0) (taskAt plan j .outputs) held g (output-apart planBytes good i j p li lj d l)) h
 
   -- f: the values of these signals before the task writes
   module _ (t : ℕ) (f : ℕ → ℕ) where
@@ -107,71 +90,55 @@ module _ (planBytes : List ℕ) (good : planVerdict planBytes .number ≡ 0) (i 
 
     -- one that writes its held outputs
     record Writes (held : List ℕ) (u : Turn) : Type 0 where
-      entries : u .entries ≡ map (λ w. writeEntry t i (w .signal) (w .value)) (writesOf (k .outputs) held)
+      entries : u .entries ≡ writeEntries t i (writesOf (k .outputs) held)
       signals : u .writes ≡ writesOf (k .outputs) held
+
+    -- where nothing is written
+    nothing-silent : (u : Turn) → NothingWritten u → Silent u
+    nothing-silent u n = record {
+      entries = every-weaker (λ e. e .kind ≢ writeKind) (λ e. e .kind ≡ writeKind → e .task ≢ i) (λ e d z. absurd (d z)) (u .entries) (n .entries);
+      signals = λ v g h. subst⁻¹ (λ ws. Values v (writeAll ws g)) (n .writes) (subst⁻¹ (Values v) (writes-none g) h);
+    }
 
     -- step 1, of another task
     deadline-other : (j : ℕ) → j < length (plan .tasks) → i ≢ j → (x : TaskState) → Silent (deadlineTurn t j (taskAt plan j) x)
-    unfolding deadlineOf writeAll
-    deadline-other j l d x = go (x .status) (atDeadline t (taskAt plan j) (x .release))
-      where
-        go : (p : Status) (b : Bool) → Silent (deadlineOf p b t j (taskAt plan j) x)
-        go READY b = record { entries = tt; signals = λ v g h. h }
-        go ACTIVE true = record { entries = ((λ e. absurd (omega (arith, e))), tt); signals = λ v g h. h }
-        go ACTIVE false = record { entries = tt; signals = λ v g h. h }
-        go FINISHED true = record {
-          entries = other-writes t i j (writesOf (taskAt plan j .outputs) (x .held)) (λ e. d (sym e));
-          signals = λ v g h. others-write j l d v (x .held) g h;
-        }
-        go FINISHED false = record { entries = tt; signals = λ v g h. h }
-        go ERROR b = record { entries = tt; signals = λ v g h. h }
+    deadline-other j l d x = record {
+      entries = deadline-every (λ e. e .kind ≡ writeKind → e .task ≢ i) t j (taskAt plan j) x (λ s v z e. d (sym e)) (λ a z e. d (sym e));
+      signals = λ v g h. deadline-signals (Values v) t j (taskAt plan j) x g h (λ held. others-write j l d v held g h);
+    }
 
     -- of the task itself: it writes only where D > 0
     deadline-own : (x : TaskState) → Silent (deadlineTurn t i k x) ⊎ ((k .deadline ≢ 0) × Writes (x .held) (deadlineTurn t i k x))
-    unfolding deadlineOf writeAll
-    deadline-own x = go (x .status) (atDeadline t k (x .release)) refl
+    deadline-own x = go (deadline-writing t i k x)
       where
-        go : (p : Status) (b : Bool) → atDeadline t k (x .release) ≡ b → Silent (deadlineOf p b t i k x) ⊎ ((k .deadline ≢ 0) × Writes (x .held) (deadlineOf p b t i k x))
-        go READY b e = inl (record { entries = tt; signals = λ v g h. h })
-        go ACTIVE true e = inl (record { entries = ((λ z. absurd (omega (arith, z))), tt); signals = λ v g h. h })
-        go ACTIVE false e = inl (record { entries = tt; signals = λ v g h. h })
-        go FINISHED true e = inr (
-          not-iff (k .deadline) 0 .0 (and-left (not (eqb (k .deadline) 0)) (eqb t (x .release + k .deadline)) e),
-          record { entries = refl; signals = refl },
-        )
-        go FINISHED false e = inl (record { entries = tt; signals = λ v g h. h })
-        go ERROR b e = inl (record { entries = tt; signals = λ v g h. h })
+        u : Turn
+        u = deadlineTurn t i k x
+
+        go : NothingWritten u ⊎ ((k .deadline ≢ 0) × AllWritten t i k u) → Silent u ⊎ ((k .deadline ≢ 0) × Writes (x .held) u)
+        go (inl n) = inl (nothing-silent u n)
+        go (inr a) = inr (a .0, subst (λ held. Writes held u) (deadline-values t i k x .held) (record { entries = a .1 .entries; signals = a .1 .writes }))
 
     -- step 2, of any task
-    answer-silent : (j : ℕ) (signals : List ℕ) (x : TaskState) (c : Call) → Silent (answer waits t signals j (taskAt plan j) x c)
-    unfolding answer writeAll
-    answer-silent j signals x (released n) = record { entries = ((λ z. absurd (omega (arith, z))), same-none i n _ (λ z. absurd (omega (arith, z)))); signals = λ v g h. h }
-    answer-silent j signals x overrun = record { entries = ((λ z. absurd (omega (arith, z))), tt); signals = λ v g h. h }
-    answer-silent j signals x (ignored n) = record { entries = same-none i n _ (λ z. absurd (omega (arith, z))); signals = λ v g h. h }
+    release-silent : (j : ℕ) (signals : List ℕ) (now : List Event) (x : TaskState) → Silent (releaseTurn waits t signals now j (taskAt plan j) x)
+    release-silent j signals now x = nothing-silent _ (release-writing waits t signals now j (taskAt plan j) x)
 
     -- step 3, of another task
     run-other : (j : ℕ) → j < length (plan .tasks) → i ≢ j → (x : TaskState) → Silent (runTurn t j (taskAt plan j) x)
-    unfolding writeAll
-    run-other j l d x = go (eqb (x .remaining - 1) 0) (eqb (taskAt plan j .deadline) 0)
-      where
-        go : (b c : Bool) → Silent (cond b (cond c (writeOut t j (taskAt plan j) (finish (taskAt plan j) x)) (quiet (finish (taskAt plan j) x))) (quiet (loses x)))
-        go true true = record {
-          entries = other-writes t i j (writesOf (taskAt plan j .outputs) (finish (taskAt plan j) x .held)) (λ e. d (sym e));
-          signals = λ v g h. others-write j l d v (finish (taskAt plan j) x .held) g h;
-        }
-        go true false = record { entries = tt; signals = λ v g h. h }
-        go false c = record { entries = tt; signals = λ v g h. h }
+    run-other j l d x = record {
+      entries = run-every (λ e. e .kind ≡ writeKind → e .task ≢ i) t j (taskAt plan j) x (λ s v z e. d (sym e));
+      signals = λ v g h. run-signals (Values v) t j (taskAt plan j) x g h (λ held. others-write j l d v held g h);
+    }
 
     -- of the task itself: it writes only where D = 0
     run-own : (x : TaskState) → Silent (runTurn t i k x) ⊎ ((k .deadline ≡ 0) × Writes (runTurn t i k x .state .held) (runTurn t i k x))
-    unfolding writeAll
-    run-own x = go (eqb (x .remaining - 1) 0) (eqb (k .deadline) 0) refl
+    run-own x = go (run-writing t i k x)
       where
-        go : (b c : Bool) → eqb (k .deadline) 0 ≡ c
-            → let u = cond b (cond c (writeOut t i k (finish k x)) (quiet (finish k x))) (quiet (loses x)) in Silent u ⊎ ((k .deadline ≡ 0) × Writes (u .state .held) u)
-        go true true e = inr (eqb-true (k .deadline) 0 e, record { entries = refl; signals = refl })
-        go true false e = inl (record { entries = tt; signals = λ v g h. h })
-        go false c e = inl (record { entries = tt; signals = λ v g h. h })
+        u : Turn
+        u = runTurn t i k x
+
+        go : NothingWritten u ⊎ ((k .deadline ≡ 0) × AllWritten t i k u) → Silent u ⊎ ((k .deadline ≡ 0) × Writes (u .state .held) u)
+        go (inl n) = inl (nothing-silent u n)
+        go (inr a) = inr (a .0, record { entries = a .1 .entries; signals = a .1 .writes })
 
     -- ---- moments
     -- the task has written nothing
@@ -226,7 +193,7 @@ module _ (planBytes : List ℕ) (good : planVerdict planBytes .number ≡ 0) (i 
             };
             signals = subst⁻¹ (λ ws. Values (λ p. getD held p 0) (writeAll ws (m .signals))) (u .signals) (record {
               size = written-length (k .outputs) held (m .signals) ∙ h .signals .size;
-              value = λ p l. written (k .outputs) held (m .signals) (outputs-differ planBytes accepted i (in-plan planBytes good i li)) (omega arith) (rw (h .signals .size) (outputs-below planBytes good i li)) p l;
+              value = λ p l. written (k .outputs) held (m .signals) (outputs-differ planBytes good i li) (omega arith) (rw (h .signals .size) (outputs-below planBytes good i li)) p l;
             });
           }
 
@@ -284,23 +251,12 @@ module _ (planBytes eventBytes : List ℕ) (good : planVerdict planBytes .number
   abbrev DoneAt : List ℕ → Moment → Type 0
   DoneAt = Done planBytes good i li t v₀
 
-  -- each task stands once in the order of priority
-  distinct : Pairwise _≢_ (order the-plan)
-  distinct =
-      order-distinct the-plan
-      (every-weaker (λ j. Timing (taskAt the-plan j)) (λ j. Between 1 maxPriority (taskAt the-plan j .priority)) (λ j w. w .priority) (numbers the-plan)
-      (each-task Timing the-plan (plans.accepted planBytes good .timing)))
-
   -- "8 held outputs"
   held-size : (u : State) → Fits the-plan events u → length (stateAt (u .tasks) i .held) ≡ maxPorts
   held-size u h = let most = few-tasks planBytes good in let size = h .sizes .tasks in every-at SizedTask nowhere (u .tasks) (h .sizes .ports) i (omega arith) .held
 
-  -- step 0 done
-  abbrev start : Moment
-  start = record { signals = setNow (eventsAt t events) (s .signals); tasks = s .tasks; entries = [] }
-
   -- step 0: "Kind 2 sets a signal that no task writes."
-  zeroth : QuietAt start
+  zeroth : QuietAt (begins events s)
   zeroth = record {
     entries = tt;
     signals =
@@ -317,18 +273,18 @@ module _ (planBytes eventBytes : List ℕ) (good : planVerdict planBytes .number
   second held m h =
       each-keeps the-plan (releaseTurn waits t (m .signals) (eventsAt t events)) (λ n. QuietAt n ⊎ DoneAt held n) (λ j. j < length (the-plan .tasks))
       (λ j n l r. silent-either planBytes good i li t v₀ (releaseTurn waits t (m .signals) (eventsAt t events)) held j n
-      (answer-silent planBytes good i li t v₀ j (m .signals) (stateAt (n .tasks) j) (callOf t (eventsAt t events) j (taskAt the-plan j) (stateAt (n .tasks) j .status))) r)
+      (release-silent planBytes good i li t v₀ j (m .signals) (eventsAt t events) (stateAt (n .tasks) j)) r)
       (order the-plan) m (order-below the-plan) h
 
   -- with D > 0 it writes in step 1, or not at all
-  with-deadline : the-task .deadline ≢ 0 → let m = runs the-plan t (mid the-plan events s) in QuietAt m ⊎ DoneAt (stateAt (s .tasks) i .held) m
+  with-deadline : the-task .deadline ≢ 0 → let m = runs the-plan t (afterReleases waits the-plan events s) in QuietAt m ⊎ DoneAt (stateAt (s .tasks) i .held) m
   with-deadline d =
       let held = stateAt (s .tasks) i .held in
       let x = stateAt (s .tasks) i in
       let first = each-once planBytes good i li t v₀ (deadlineTurn t) held x (held-size s fit) (own (deadline-own planBytes good i li t v₀ x)) (deadline-other planBytes good i li t v₀)
-      (order the-plan) start distinct (order-below the-plan) zeroth refl in
-      runs-keeps the-plan t (λ m. QuietAt m ⊎ DoneAt held m) (mid the-plan events s)
-      (λ j q r. silent-either planBytes good i li t v₀ (runTurn t) held j (mid the-plan events s) (silent j (q .1) (stateAt (mid the-plan events s .tasks) j) (ℕ-discrete i j)) r)
+      (order the-plan) (begins events s) (order-once planBytes good) (order-below the-plan) zeroth refl in
+      runs-keeps the-plan t (λ m. QuietAt m ⊎ DoneAt held m) (afterReleases waits the-plan events s)
+      (λ j q r. silent-either planBytes good i li t v₀ (runTurn t) held j (afterReleases waits the-plan events s) (silent j (q .1) (stateAt (afterReleases waits the-plan events s .tasks) j) (ℕ-discrete i j)) r)
       (second held (deadlines the-plan events s) first)
     where
       own : {A B C : Type 0} → A ⊎ (B × C) → A ⊎ C
@@ -345,9 +301,9 @@ module _ (planBytes eventBytes : List ℕ) (good : planVerdict planBytes .number
       silent j l x (no e) = run-other planBytes good i li t v₀ j l e x
 
   -- with D = 0 in step 3, or not at all
-  without-deadline : the-task .deadline ≡ 0 → let m = runs the-plan t (mid the-plan events s) in length (stateAt (m .tasks) i .held) ≡ maxPorts → QuietAt m ⊎ DoneAt (stateAt (m .tasks) i .held) m
+  without-deadline : the-task .deadline ≡ 0 → let m = runs the-plan t (afterReleases waits the-plan events s) in length (stateAt (m .tasks) i .held) ≡ maxPorts → QuietAt m ⊎ DoneAt (stateAt (m .tasks) i .held) m
   unfolding visitIf
-  without-deadline z size = go (running the-plan (mid the-plan events s .tasks)) (running-is the-plan (mid the-plan events s .tasks)) size
+  without-deadline z size = go (running the-plan (afterReleases waits the-plan events s .tasks)) (running-is the-plan (afterReleases waits the-plan events s .tasks)) size
     where
       itself : (x : TaskState) → Silent planBytes good i li t v₀ (deadlineTurn t i the-task x) ⊎ ((the-task .deadline ≢ 0) × Writes planBytes good i li t v₀ (x .held) (deadlineTurn t i the-task x))
           → Silent planBytes good i li t v₀ (deadlineTurn t i the-task x)
@@ -362,13 +318,13 @@ module _ (planBytes eventBytes : List ℕ) (good : planVerdict planBytes .number
       first =
           each-keeps the-plan (deadlineTurn t) QuietAt (λ j. j < length (the-plan .tasks))
           (λ j m l h. silent-quiet planBytes good i li t v₀ (deadlineTurn t) j m (silent j l (stateAt (m .tasks) j) (ℕ-discrete i j)) h)
-          (order the-plan) start (order-below the-plan) zeroth
+          (order the-plan) (begins events s) (order-below the-plan) zeroth
 
-      after : QuietAt (mid the-plan events s)
+      after : QuietAt (afterReleases waits the-plan events s)
       after =
           each-keeps the-plan (releaseTurn waits t (deadlines the-plan events s .signals) (eventsAt t events)) QuietAt (λ j. j < length (the-plan .tasks))
           (λ j n l r. silent-quiet planBytes good i li t v₀ (releaseTurn waits t (deadlines the-plan events s .signals) (eventsAt t events)) j n
-          (answer-silent planBytes good i li t v₀ j (deadlines the-plan events s .signals) (stateAt (n .tasks) j) (callOf t (eventsAt t events) j (taskAt the-plan j) (stateAt (n .tasks) j .status))) r)
+          (release-silent planBytes good i li t v₀ j (deadlines the-plan events s .signals) (eventsAt t events) (stateAt (n .tasks) j)) r)
           (order the-plan) (deadlines the-plan events s) (order-below the-plan) first
 
       runs-itself : (m : Moment) → i < length (m .tasks) → QuietAt m → length (stateAt (visit the-plan (runTurn t) i m .tasks) i .held) ≡ maxPorts
@@ -385,32 +341,37 @@ module _ (planBytes eventBytes : List ℕ) (good : planVerdict planBytes .number
               inr (writes-done planBytes good i li t v₀ (runTurn t) (stateAt (visit the-plan (runTurn t) i m .tasks) i .held) m size
               (subst⁻¹ (λ y. Writes planBytes good i li t v₀ (y .held) (runTurn t i the-task (stateAt (m .tasks) i))) same (w .1)) h)
 
-      go : (o : Option ℕ) → If (Runnable the-plan (mid the-plan events s .tasks)) o → let m = visitIf the-plan (runTurn t) o (mid the-plan events s) in length (stateAt (m .tasks) i .held) ≡ maxPorts
+      go : (o : Option ℕ) → If (Runnable the-plan (afterReleases waits the-plan events s .tasks)) o → let m = visitIf the-plan (runTurn t) o (afterReleases waits the-plan events s) in length (stateAt (m .tasks) i .held) ≡ maxPorts
           → QuietAt m ⊎ DoneAt (stateAt (m .tasks) i .held) m
       go none q size = inl after
       go (some j) q size = which (ℕ-discrete i j)
         where
-          which : Dec (i ≡ j) → QuietAt (visit the-plan (runTurn t) j (mid the-plan events s)) ⊎ DoneAt (stateAt (visit the-plan (runTurn t) j (mid the-plan events s) .tasks) i .held) (visit the-plan (runTurn t) j (mid the-plan events s))
+          which : Dec (i ≡ j) → QuietAt (visit the-plan (runTurn t) j (afterReleases waits the-plan events s)) ⊎ DoneAt (stateAt (visit the-plan (runTurn t) j (afterReleases waits the-plan events s) .tasks) i .held) (visit the-plan (runTurn t) j (afterReleases waits the-plan events s))
           which (yes e) =
               let back : j ≡ i = sym e in
-              subst (λ n. QuietAt (visit the-plan (runTurn t) n (mid the-plan events s)) ⊎ DoneAt (stateAt (visit the-plan (runTurn t) n (mid the-plan events s) .tasks) i .held) (visit the-plan (runTurn t) n (mid the-plan events s))) e
-              (runs-itself (mid the-plan events s) (let a = mid-length the-plan events s in let b = fit .sizes .tasks in let c = few-tasks planBytes good in omega arith) after
-              (subst (λ n. length (stateAt (visit the-plan (runTurn t) n (mid the-plan events s) .tasks) i .held) ≡ maxPorts) back size))
-          which (no d) = inl (silent-quiet planBytes good i li t v₀ (runTurn t) j (mid the-plan events s) (run-other planBytes good i li t v₀ j (q .1) d (stateAt (mid the-plan events s .tasks) j)) after)
+              subst (λ n. QuietAt (visit the-plan (runTurn t) n (afterReleases waits the-plan events s)) ⊎ DoneAt (stateAt (visit the-plan (runTurn t) n (afterReleases waits the-plan events s) .tasks) i .held) (visit the-plan (runTurn t) n (afterReleases waits the-plan events s))) e
+              (runs-itself (afterReleases waits the-plan events s) (let a = released-length waits the-plan events s in let b = fit .sizes .tasks in let c = few-tasks planBytes good in omega arith) after
+              (subst (λ n. length (stateAt (visit the-plan (runTurn t) n (afterReleases waits the-plan events s) .tasks) i .held) ≡ maxPorts) back size))
+          which (no d) = inl (silent-quiet planBytes good i li t v₀ (runTurn t) j (afterReleases waits the-plan events s) (run-other planBytes good i li t v₀ j (q .1) d (stateAt (afterReleases waits the-plan events s .tasks) j)) after)
+
+  -- after the tick
+  abbrev last : Moment
+  last = runs the-plan t (afterReleases waits the-plan events s)
 
   -- a task's writes of a tick: nothing, or everything at once
-  pub tick-at-once : AtOnce the-plan events i s
+  pub tick-at-once : AtOnce the-plan i s (tick the-plan events s .entries) (tick the-plan events s .state)
   unfolding tick
   tick-at-once = go (eqb (the-task .deadline) 0) refl
     where
-      seen : (held : List ℕ) → heldFor the-plan events i s ≡ held → QuietAt (runs the-plan t (mid the-plan events s)) ⊎ DoneAt held (runs the-plan t (mid the-plan events s)) → AtOnce the-plan events i s
+      seen : (held : List ℕ) → heldFor the-plan i s (tick the-plan events s .state) ≡ held → QuietAt last ⊎ DoneAt held last
+          → AtOnce the-plan i s (last .entries) (tick the-plan events s .state)
       seen held e (inl h) = nothing (h .entries) (h .signals .value)
       seen held e (inr h) =
-          everything (subst⁻¹ (λ r. Together t i the-task r (runs the-plan t (mid the-plan events s) .entries)) e (h .entries))
-          (subst⁻¹ (λ r. (p : ℕ) → p < length (the-task .outputs) → valueAt (runs the-plan t (mid the-plan events s) .signals) (getD (the-task .outputs) p 0) ≡ getD r p 0) e (h .signals .value))
+          everything (subst⁻¹ (λ r. Together t i the-task r (last .entries)) e (h .entries))
+          (subst⁻¹ (λ r. (p : ℕ) → p < length (the-task .outputs) → valueAt (last .signals) (getD (the-task .outputs) p 0) ≡ getD r p 0) e (h .signals .value))
 
-      go : (b : Bool) → eqb (the-task .deadline) 0 ≡ b → AtOnce the-plan events i s
+      go : (b : Bool) → eqb (the-task .deadline) 0 ≡ b → AtOnce the-plan i s (last .entries) (tick the-plan events s .state)
       go true e =
-          seen (stateAt (runs the-plan t (mid the-plan events s) .tasks) i .held) (rw e)
-          (without-deadline (eqb-true (the-task .deadline) 0 e) (held-size (tick the-plan events s .state) (tick-fits planBytes eventBytes good list s fit early)))
+          seen (stateAt (last .tasks) i .held) (rw e)
+          (without-deadline (eqb-true (the-task .deadline) 0 e) (held-size (tick the-plan events s .state) (tick-fitting planBytes eventBytes good list s fit early)))
       go false e = seen (stateAt (s .tasks) i .held) (rw e) (with-deadline (eqb-false (the-task .deadline) 0 e))

@@ -1,25 +1,43 @@
 -- Document 01, promises to a user: runs compose, a state that the kernel returned fits, and a move is seen whole or not at all.
-use Prim.Native.Nat.{ℕ, _+_, _<_, _≤_}
+use Prim.Native.Nat.{ℕ, _+_, _*_, _<_, _≤_}
 use mathlib.Core.Path.{_≡_}
 use mathlib.Core.Logic.{_≢_, _⊎_}
 use mathlib.Core.Bool.{cond}
 use mathlib.Core.List.{List, [], _∷_, _++_}
 use lib.ListN.{length, getD}
 use lib.Dec.{eqb}
-use Rattle.lists.specs.Lists.{tab, Every, Pairwise}
+use Rattle.lists.specs.Lists.{tab, Every, Pairwise, In}
 use Rattle.answers.specs.Answers.{said}
 use Rattle.plan.specs.File.{Action, Task, Plan, taskAt}
 use Rattle.events.specs.Events.{Event}
-use Rattle.trace.specs.Trace.{writeKind, writeEntry, traceAfter}
+use Rattle.trace.specs.Trace.{writeKind, writeEntry, traceAfter, recordsIn}
 use Rattle.trace.specs.declared.Entry.{Entry}
 use Rattle.state.specs.State.{valueAt, stateAt}
 use Rattle.state.specs.declared.State.{State}
 use Rattle.state.specs.declared.Status.the-variants.{ERROR}
 use Rattle.tick.specs.Tick.{tick}
 use Rattle.kernel.specs.Call.{Runs}
-use Rattle.zero.specs.Zero.{Called, recordsOf}
+use Rattle.kernel.specs.declared.Outcome.{Outcome}
+use Rattle.zero.specs.Zero.{ticks, Called, recordsOf}
 
--- ---- 1. Runs compose
+-- ---- 1. "1..13 return the given state, 0 ticks, 0 records, trace untouched."
+pub record Untouched (s : State) (lent left : List ℕ) (r : Outcome) : Type 0 where
+  pub state : r .state ≡ s
+  pub ticks : r .ticks ≡ 0
+  pub records : r .records ≡ 0
+  pub trace : left ≡ lent
+
+-- 14: "trace full before the asked ticks were run": fewer ticks than asked were run, their records are in the trace and no other
+-- word of it is touched, and those of the next tick have no room
+pub record StopsBefore (plan : Plan) (events : List Event) (s : State) (asked : ℕ) (lent left : List ℕ) (r : Outcome) : Type 0 where
+  pub place : said (r .answer) .place ≡ 0
+  pub fewer : r .ticks < asked
+  pub state : r .state ≡ ticks (tick plan events) (r .ticks) s .state
+  pub records : recordsIn left (r .records) ≡ ticks (tick plan events) (r .ticks) s .entries
+  pub trace : left ≡ traceAfter (ticks (tick plan events) (r .ticks) s .entries) lent
+  pub full : length lent < 5 * (r .records + length (tick plan events (r .state) .entries))
+
+-- ---- 2. Runs compose
 -- what a call gave, from a state on
 abbrev pub CalledFrom : List ℕ → List ℕ → State → Called → Type 0
 CalledFrom planBytes eventBytes s c = Runs planBytes eventBytes s (c .asked) (c .lent) (c .left) (c .outcome)
@@ -54,23 +72,24 @@ pub record Together (t i : ℕ) (k : Task) (held : List ℕ) (es : List Entry) :
   pub none-earlier : NoWrite i earlier
   pub none-later : NoWrite i later
 
--- the held outputs that task i writes in a tick from s, if it does: with D > 0 those that it has ("FINISHED writes all held
--- outputs"), with D = 0 those that its body leaves ("it writes at once")
-abbrev pub heldFor : Plan → List Event → ℕ → State → List ℕ
-heldFor plan events i s =
-    cond (eqb (taskAt plan i .deadline) 0) (stateAt (tick plan events s .state .tasks) i .held) (stateAt (s .tasks) i .held)
+-- the held outputs that task i writes in a tick that leads from s to s′, if it does: with D > 0 those that it had ("FINISHED writes
+-- all held outputs"), with D = 0 those that its body left ("it writes at once")
+abbrev pub heldFor : Plan → ℕ → State → State → List ℕ
+heldFor plan i s s′ = cond (eqb (taskAt plan i .deadline) 0) (stateAt (s′ .tasks) i .held) (stateAt (s .tasks) i .held)
 
--- in a tick from s task i writes nothing, and each signal that it writes is as it was; or it writes once, all its held outputs,
--- and each of these signals has its value
-pub data AtOnce (plan : Plan) (events : List Event) (i : ℕ) (s : State) : Type 0 where
-  nothing : NoWrite i (tick plan events s .entries)
-      → ((p : ℕ) → p < length (taskAt plan i .outputs)
-      → valueAt (tick plan events s .state .signals) (getD (taskAt plan i .outputs) p 0) ≡ valueAt (s .signals) (getD (taskAt plan i .outputs) p 0))
-      → AtOnce plan events i s
-  everything : Together (s .tick) i (taskAt plan i) (heldFor plan events i s) (tick plan events s .entries)
-      → ((p : ℕ) → p < length (taskAt plan i .outputs)
-      → valueAt (tick plan events s .state .signals) (getD (taskAt plan i .outputs) p 0) ≡ getD (heldFor plan events i s) p 0)
-      → AtOnce plan events i s
+-- the signal that task i writes at a position
+abbrev pub outputOf : Plan → ℕ → ℕ → ℕ
+outputOf plan i p = getD (taskAt plan i .outputs) p 0
+
+-- in a tick that leads from s to s′ with these records task i writes nothing, and each signal that it writes is as it was; or it
+-- writes once, all its held outputs, and each of these signals has its value
+pub data AtOnce (plan : Plan) (i : ℕ) (s : State) (es : List Entry) (s′ : State) : Type 0 where
+  nothing : NoWrite i es
+      → ((p : ℕ) → p < length (taskAt plan i .outputs) → valueAt (s′ .signals) (outputOf plan i p) ≡ valueAt (s .signals) (outputOf plan i p))
+      → AtOnce plan i s es s′
+  everything : Together (s .tick) i (taskAt plan i) (heldFor plan i s s′) es
+      → ((p : ℕ) → p < length (taskAt plan i .outputs) → valueAt (s′ .signals) (outputOf plan i p) ≡ getD (heldFor plan i s s′) p 0)
+      → AtOnce plan i s es s′
 
 -- added as whole numbers: a value for each position of a list
 unfoldable pub sumOf : (ℕ → ℕ) → List ℕ → ℕ
@@ -79,12 +98,7 @@ sumOf f (p ∷ ps) = f p + sumOf f ps
 
 -- the signals that task i writes at positions of a list, added: what a reader of the signals sees in the listed safes
 abbrev pub totalOf : Plan → ℕ → List ℕ → List ℕ → ℕ
-totalOf plan i ps signals = sumOf (λ p. valueAt signals (getD (taskAt plan i .outputs) p 0)) ps
-
--- p stands in a list
-abbrev pub In : ℕ → List ℕ → Type 0
-In p [] = ⊥
-In p (q ∷ qs) = (p ≡ q) ⊎ In p qs
+totalOf plan i ps signals = sumOf (λ p. valueAt signals (outputOf plan i p)) ps
 
 -- "4 move: .. m goes from a to b", both ends in the list
 abbrev pub MovesWithin : List ℕ → Action → Type 0

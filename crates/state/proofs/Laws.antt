@@ -15,7 +15,7 @@ use borrow.Author.Tests.{ltb-true, ltb-false, lt-ltb, le-ltb, eqb-true, eq-eqb}
 use Rattle.words.specs.Words.{wordsOf}
 use Rattle.words.proofs.Laws.{part-words}
 use Rattle.lists.specs.Lists.{tab, all}
-use Rattle.lists.proofs.Laws.{length-tab, getD-tab, map-tab, and-assoc, and-true}
+use Rattle.lists.proofs.Laws.{length-tab, getD-tab, map-tab, and-assoc, and-true, map-in}
 use Rattle.lists.proofs.Tests.{tests, choices, same-or-not}
 use Rattle.plan.specs.File.{word, startOf, lengthOf, bodyPart, signalCount, taskCount, outputsAt, outputCount, taskOf, Plan, planOf, noTask, taskAt}
 use Rattle.plan.proofs.Laws.{signals-length, tasks-length}
@@ -102,11 +102,6 @@ module _ (bytes : List ℕ) (i : ℕ) where
   task-out h = le-ltb i (length (planOf bytes .tasks)) (rw (tasks-length bytes) h)
 
 -- ---- task i of a fresh state
-map-in : {A B : Type 0} (f : A → B) (xs : List A) (i : ℕ) (d : A) (e : B) → i < length xs → getD (map f xs) i e ≡ f (getD xs i d)
-map-in f [] i d e h = absurd (omega arith)
-map-in f (x ∷ xs) zero d e h = refl
-map-in f (x ∷ xs) (suc i) d e h = map-in f xs i d e (omega arith)
-
 pub fresh-task-at : (plan : Plan) (i : ℕ) → getD (map (freshTask (plan .signals)) (plan .tasks)) i idle ≡ freshAt plan i
 fresh-task-at plan i = go (ltb i (length (plan .tasks))) refl
   where

@@ -1,3 +1,4 @@
+pub mod Statuses
 pub mod Laws
 pub mod Sizes
 pub mod Zeros

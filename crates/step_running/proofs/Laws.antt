@@ -9,6 +9,7 @@ use lib.ListN.{length, set, take, drop, length-drop, drop-of-length-le}
 use lib.Seq.{take-all, take-length, drop-length, drop-drop}
 use lib.Dec.{ltb}
 use borrow.Author.Tests.{ltb-true, ltb-false, eq-eqb}
+use Rattle.lists.proofs.Laws.{cut-take, cut-drop}
 use Rattle.words.specs.Words.{wordsOf}
 use Rattle.words.proofs.Laws.{part-words}
 use Rattle.plan.specs.File.{Task, taskOf, bodyPart}
@@ -18,21 +19,6 @@ use Rattle.arrays.specs.Arrays.{Arrays, Step, Does, ready, finished, field, row
 use Rattle.steps.specs.Flat.{taskOfRow, reset, rowWrites, writeRow, portsOf, withPorts, finishTask, work}
 use Rattle.writes.specs.Writes.{Wrote}
 use Rattle.step_running.specs.Finish.{Ran, Finished}
-
--- what holds of n, and of m where n is beyond it, holds of the smaller
-cut : (G : ℕ → Type 0) (n m : ℕ) → G n → (m ≤ n → G m) → G (min n m)
-cut G n m p q = go (ltb n m) refl
-  where
-    go : (b : Bool) → ltb n m ≡ b → G (min n m)
-    go true e = let h = ltb-true n m e in let s : n ≡ min n m = omega arith in subst G s p
-    go false e = let h = ltb-false n m e in let s : m ≡ min n m = omega arith in subst G s (q h)
-
--- a place beyond the end of a list is its end
-cut-take : (n : ℕ) (l : List ℕ) → take (min n (length l)) l ≡ take n l
-cut-take n l = cut (λ k. take k l ≡ take n l) n (length l) refl (λ h. take-length l ∙ sym (take-all n l h))
-
-cut-drop : (n : ℕ) (l : List ℕ) → drop (min n (length l)) l ≡ drop n l
-cut-drop n l = cut (λ k. drop k l ≡ drop n l) n (length l) refl (λ h. drop-length l ∙ sym (drop-of-length-le l h))
 
 -- the ports of task i that there are, and the ports with those changed
 module _ (ports : List ℕ) (i : ℕ) where

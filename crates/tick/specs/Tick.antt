@@ -24,14 +24,18 @@ unfoldable pub writeAll : List Write → List ℕ → List ℕ
 writeAll [] signals = signals
 writeAll (w ∷ ws) signals = writeAll ws (set signals (w .signal) (w .value))
 
+-- what each task does in its turn of a step, by its number
+abbrev pub Act : Type 0
+Act = ℕ → Task → TaskState → Turn
+
 -- one task's turn
-abbrev pub visit : Plan → (ℕ → Task → TaskState → Turn) → ℕ → Moment → Moment
+abbrev pub visit : Plan → Act → ℕ → Moment → Moment
 visit plan act i m =
     let u = act i (taskAt plan i) (stateAt (m .tasks) i) in
     record { signals = writeAll (u .writes) (m .signals); tasks = set (m .tasks) i (u .state); entries = m .entries ++ u .entries }
 
 -- each task of a list of task numbers, in its order; records "as the steps come"
-unfoldable pub each : Plan → (ℕ → Task → TaskState → Turn) → List ℕ → Moment → Moment
+unfoldable pub each : Plan → Act → List ℕ → Moment → Moment
 each plan act [] m = m
 each plan act (i ∷ is) m = each plan act is (visit plan act i m)
 
@@ -45,15 +49,21 @@ unfoldable pub setNow : List Event → List ℕ → List ℕ
 setNow [] signals = signals
 setNow (e ∷ now) signals = setNow now (cond (eqb (e .kind) 2) (set signals (e .target) (e .value)) signals)
 
+-- a tick begins: step 0 is done, and nothing is recorded yet
+abbrev pub begins : List Event → State → Moment
+begins events s = record { signals = setNow (eventsAt (s .tick) events) (s .signals); tasks = s .tasks; entries = [] }
+
 -- 0, then 1. "In order of priority, each task in flight with D > 0 and t = r + D"
 abbrev pub deadlines : Plan → List Event → State → Moment
-deadlines plan events s =
-    each plan (deadlineTurn (s .tick)) (order plan)
-    (record { signals = setNow (eventsAt (s .tick) events) (s .signals); tasks = s .tasks; entries = [] })
+deadlines plan events s = each plan (deadlineTurn (s .tick)) (order plan) (begins events s)
 
 -- 2. "In order of priority, releases." Every task latches the signals as step 1 left them
 abbrev pub releases : (Task → TaskState → TaskState) → Plan → List Event → ℕ → Moment → Moment
 releases start plan events t m = each plan (releaseTurn start t (m .signals) (eventsAt t events)) (order plan) m
+
+-- steps 0, 1 and 2
+abbrev pub afterReleases : (Task → TaskState → TaskState) → Plan → List Event → State → Moment
+afterReleases start plan events s = releases start plan events (s .tick) (deadlines plan events s)
 
 -- the more urgent of a task and the best so far, if any
 unfoldable pub better : Plan → ℕ → Option ℕ → ℕ
@@ -69,7 +79,7 @@ mostUrgent plan test (i ∷ is) best = mostUrgent plan test is (cond (test i) (s
 abbrev pub running : Plan → List TaskState → Option ℕ
 running plan xs = mostUrgent plan (λ i. isActive (stateAt xs i .status)) (numbers plan) none
 
-unfoldable pub visitIf : Plan → (ℕ → Task → TaskState → Turn) → Option ℕ → Moment → Moment
+unfoldable pub visitIf : Plan → Act → Option ℕ → Moment → Moment
 visitIf plan act none m = m
 visitIf plan act (some i) m = visit plan act i m
 
@@ -89,9 +99,9 @@ ends events t m =
 
 -- "At tick t": steps 0, 1, 2 and 3
 unfoldable pub tick : Plan → List Event → State → Ticked
-tick plan events s = ends events (s .tick) (runs plan (s .tick) (releases waits plan events (s .tick) (deadlines plan events s)))
+tick plan events s = ends events (s .tick) (runs plan (s .tick) (afterReleases waits plan events s))
 
 -- "The zero-time reading .. has steps 0, 1 and 2 with one change and no step 3: a released task's body runs at once on its
 -- latched inputs and held outputs, and the task is FINISHED until r + D."
 unfoldable pub zeroTick : Plan → List Event → State → Ticked
-zeroTick plan events s = ends events (s .tick) (releases finish plan events (s .tick) (deadlines plan events s))
+zeroTick plan events s = ends events (s .tick) (afterReleases finish plan events s)

@@ -29,15 +29,25 @@ pub record Turn : Type 0 where
 abbrev pub quiet : TaskState → Turn
 quiet x = record { state = x; writes = []; entries = [] }
 
+-- a task state with other times: status, remaining ticks, release instant
+abbrev pub timed : Status → ℕ → ℕ → TaskState → TaskState
+timed status remaining release x =
+    record { status = status; remaining = remaining; release = release; machine = x .machine; latched = x .latched; held = x .held }
+
+-- with other values: machine state, latched inputs, held outputs
+abbrev pub valued : ℕ → List ℕ → List ℕ → TaskState → TaskState
+valued machine latched held x =
+    record { status = x .status; remaining = x .remaining; release = x .release; machine = machine; latched = latched; held = held }
+
 -- "Becoming READY or ERROR sets remaining and r to 0; latched inputs stay."
 abbrev pub becomes : Status → TaskState → TaskState
-becomes s x = record { status = s; remaining = 0; release = 0; machine = x .machine; latched = x .latched; held = x .held }
+becomes s x = timed s 0 0 x
 
 -- the body has run: a task becomes FINISHED
 abbrev pub finish : Task → TaskState → TaskState
 finish k x =
     let left = body k (x .latched) (x .machine) (x .held) in
-    record { status = FINISHED; remaining = 0; release = x .release; machine = left .machine; latched = x .latched; held = left .held }
+    timed FINISHED 0 (x .release) (valued (left .machine) (x .latched) (left .held) x)
 
 -- each held output to its signal, in position order
 unfoldable pub writesOf : List ℕ → List ℕ → List Write
@@ -83,14 +93,7 @@ requests i (e ∷ now) = let n = requests i now in cond (eqb (e .kind) 1 && eqb 
 -- "latch all inputs, remaining = execution, ACTIVE, r = t"
 abbrev pub release : ℕ → List ℕ → Task → TaskState → TaskState
 release t signals k x =
-    record {
-      status = ACTIVE;
-      remaining = k .execution;
-      release = t;
-      machine = x .machine;
-      latched = pad maxPorts 0 (map (valueAt signals) (k .inputs));
-      held = x .held;
-    }
+    timed ACTIVE (k .execution) t (valued (x .machine) (pad maxPorts 0 (map (valueAt signals) (k .inputs))) (x .held) x)
 
 -- what a task's turn in step 2 comes to
 pub data Call : Type 0 where
@@ -144,8 +147,7 @@ isActive FINISHED = false
 isActive ERROR = false
 
 abbrev pub loses : TaskState → TaskState
-loses x =
-    record { status = x .status; remaining = x .remaining - 1; release = x .release; machine = x .machine; latched = x .latched; held = x .held }
+loses x = timed (x .status) (x .remaining - 1) (x .release) x
 
 -- "At 0 its body runs once; with D > 0 it becomes FINISHED, with D = 0 it writes at once and becomes READY."
 abbrev pub runTurn : ℕ → ℕ → Task → TaskState → Turn

@@ -3,7 +3,7 @@ use Prim.Native.Nat.{ℕ, zero, suc, _+_, _*_}
 use mathlib.Core.Bool.{cond}
 use mathlib.Core.List.{List, [], _∷_, _++_}
 use lib.ListN.{length, getD, set, drop}
-use lib.Dec.{leb}
+use lib.Dec.{leb, ltb, eqb}
 use Rattle.trace.specs.declared.Entry.{Entry}
 
 -- "Kinds: 1 release, 2 write (one for each output, in position order), 3 deadline missed, 4 due while ACTIVE, 5 event ignored (one each)."
@@ -45,6 +45,21 @@ recordsIn trace zero = []
 recordsIn trace (suc n) =
     record { instant = getD trace 0 0; kind = getD trace 1 0; task = getD trace 2 0; signal = getD trace 3 0; value = getD trace 4 0 }
     ∷ recordsIn (drop 5 trace) n
+
+-- "each task's lines": the records of task i, in their order
+unfoldable pub own : ℕ → List Entry → List Entry
+own i [] = []
+own i (e ∷ es) = cond (eqb (e .task) i) (e ∷ own i es) (own i es)
+
+-- the records before tick k: those of an instant below k
+unfoldable pub before : ℕ → List Entry → List Entry
+before k [] = []
+before k (e ∷ es) = cond (ltb (e .instant) k) (e ∷ before k es) (before k es)
+
+-- the records of tick n: those of instant n
+unfoldable pub ofTick : ℕ → List Entry → List Entry
+ofTick n [] = []
+ofTick n (e ∷ es) = cond (eqb (e .instant) n) (e ∷ ofTick n es) (ofTick n es)
 
 -- ---- one record after the other, as the steps come
 -- five words from word `at` on

@@ -12,7 +12,7 @@ use lib.Dec.{ltb}
 use borrow.Author.Tests.{ltb-true, ltb-false}
 use Rattle.limits.specs.Limits.{maxPorts}
 use Rattle.lists.specs.Lists.{tab}
-use Rattle.lists.proofs.Laws.{length-tab}
+use Rattle.lists.proofs.Laws.{length-tab, map-in}
 use Rattle.plan.specs.File.{Task}
 use Rattle.state.specs.State.{pad, valueAt}
 use Rattle.arrays.specs.Arrays.{rowField}
@@ -63,11 +63,6 @@ module _ (rows : List ℕ) (j : ℕ) (signals : List ℕ) where
       (λ p low high. rw (zero-add p) at (latch-same maxPorts 0 l p (omega arith) (omega arith)))
 
 -- ---- what a row latches is what its task latches: "latch all inputs"
-map-in : {A B : Type 0} (f : A → B) (xs : List A) (i : ℕ) (d : A) (e : B) → i < length xs → getD (map f xs) i e ≡ f (getD xs i d)
-map-in f [] i d e h = absurd (omega arith)
-map-in f (x ∷ xs) zero d e h = refl
-map-in f (x ∷ xs) (suc i) d e h = map-in f xs i d e (omega arith)
-
 module _ (rows : List ℕ) (j : ℕ) (k : Task) (row : RowOf rows j k) (signals : List ℕ) where
   latched-at : (p : ℕ) → p < maxPorts → latchedAt rows j signals p ≡ getD (map (valueAt signals) (k .inputs)) p 0
   latched-at p small = go (ltb p (rowField rows j 7)) refl

@@ -5,6 +5,7 @@ use mathlib.Core.List.{List, [], _∷_}
 use native.Mathlib.Omega.{arith}
 use lib.ListN.{length, getD, take, drop, length-drop, List·getD-eq-default}
 use lib.Seq.{take-nil, drop-nil}
+use Rattle.lists.proofs.Laws.{cut-take, cut-drop}
 use Rattle.words.specs.Words.{joined, wordsOf, wordAt, fourAt, partOf}
 
 -- as many words as there are whole fours of bytes
@@ -65,25 +66,6 @@ words-take (suc n) s = rw (four-more n) (go (λ r. words-take n r) s)
 
 words-of-part : (s : List ℕ) (start size : ℕ) → wordsOf (take (size * 4) (drop (start * 4) s)) ≡ take size (drop start (wordsOf s))
 words-of-part s start size = words-take size (drop (start * 4) s) ∙ ap (take size) (words-drop start s)
-
--- cut to what there is, a part is the same
-cut-drop : {A : Type 0} (n : ℕ) (l : List A) → drop (min n (length l)) l ≡ drop n l
-cut-drop n [] = drop-nil (min n 0) ∙ sym (drop-nil n)
-cut-drop zero (x ∷ l) =
-    let e : min 0 (suc (length l)) ≡ 0 = omega arith in
-    rw e
-cut-drop (suc n) (x ∷ l) =
-    let e : min (suc n) (suc (length l)) ≡ suc (min n (length l)) = omega arith in
-    rw e (cut-drop n l)
-
-cut-take : {A : Type 0} (n : ℕ) (l : List A) → take (min n (length l)) l ≡ take n l
-cut-take n [] = take-nil (min n 0) ∙ sym (take-nil n)
-cut-take zero (x ∷ l) =
-    let e : min 0 (suc (length l)) ≡ 0 = omega arith in
-    rw e
-cut-take (suc n) (x ∷ l) =
-    let e : min (suc n) (suc (length l)) ≡ suc (min n (length l)) = omega arith in
-    rw (e, cut-take n l)
 
 -- the words of a part are that part of the words
 pub part-words : (s : List ℕ) (start size : ℕ) → wordsOf (partOf s start size) ≡ take size (drop start (wordsOf s))

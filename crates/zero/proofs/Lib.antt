@@ -1,7 +1,5 @@
-pub mod Lists
 pub mod Ahead
 pub mod Order
-pub mod Turns
 pub mod Plain
 pub mod Same
 pub mod Misses
@@ -9,6 +7,7 @@ pub mod Ticks
 pub mod Instants
 pub mod Calls
 pub mod Asked
+pub mod Keeps
 pub mod Accepted
 pub mod Theorems
 pub mod Witness

@@ -9,33 +9,11 @@ use lib.Seq.{set-comm, getD-set-other}
 use Rattle.lists.specs.Lists.{Every}
 use Rattle.plan.specs.File.{Plan, taskAt}
 use Rattle.plan.proofs.Order.{Perm, pnil, pcons, pswap, ptrans}
+use Rattle.trace.specs.Trace.{own}
+use Rattle.trace.proofs.Records.{own-append, own-swap}
 use Rattle.state.specs.State.{nowhere}
 use Rattle.state.specs.declared.TaskState.{TaskState}
-use Rattle.tick.specs.Turns.{writesOf}
-use Rattle.tick.specs.Tick.{Moment, writeAll, visit, each}
-use Rattle.zero.specs.Zero.{own}
-use Rattle.zero.proofs.Lists.{own-append, own-swap}
-use Rattle.zero.proofs.Ahead.{Act}
-
--- ---- writes to different signals commute
--- one write, and the writes of outputs that it is none of
-set-one : (x v : ℕ) (outs held s : List ℕ) → Every (λ y. x ≢ y) outs → writeAll (writesOf outs held) (set s x v) ≡ set (writeAll (writesOf outs held) s) x v
-unfolding writeAll writesOf
-set-one x v [] held s d = refl
-set-one x v (y ∷ ys) [] s d = refl
-set-one x v (y ∷ ys) (h ∷ hs) s d = ap (writeAll (writesOf ys hs)) (set-comm s x y v h (d .0)) ∙ set-one x v ys hs (set s y h) (d .1)
-
--- two lists of numbers with none in common
-abbrev pub Disjoint : List ℕ → List ℕ → Type 0
-Disjoint xs ys = Every (λ x. Every (λ y. x ≢ y) ys) xs
-
--- the writes of two tasks
-pub commute : (xs hs ys gs s : List ℕ) → Disjoint xs ys
-    → writeAll (writesOf xs hs) (writeAll (writesOf ys gs) s) ≡ writeAll (writesOf ys gs) (writeAll (writesOf xs hs) s)
-unfolding writeAll writesOf
-commute [] hs ys gs s d = refl
-commute (x ∷ xs) [] ys gs s d = refl
-commute (x ∷ xs) (h ∷ hs) ys gs s d = ap (writeAll (writesOf xs hs)) (sym (set-one x h ys gs s (d .0))) ∙ commute xs hs ys gs (set s x h) (d .1)
+use Rattle.tick.specs.Tick.{Moment, Act, writeAll, visit, each}
 
 -- ---- the same signals, the same task states, the same own records of every task
 pub record Alike (m n : Moment) : Type 0 where

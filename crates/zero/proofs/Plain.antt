@@ -1,26 +1,31 @@
 -- The zero-time tick takes the tasks in order of priority; in the order of their numbers it shows the same.
 use Prim.Native.Nat.{ℕ, zero, suc, _+_}
 use mathlib.Core.Path.{_≡_, refl, sym, _∙_, ap, ap₂, subst⁻¹}
-use mathlib.Core.Logic.{_≢_}
+use mathlib.Core.Logic.{_≢_, _⊎_, inl, inr}
 use mathlib.Core.List.{List, [], _++_}
 use Rattle.lists.specs.Lists.{Pairwise}
-use Rattle.plan.specs.File.{Plan, taskAt, allOutputs}
+use Rattle.plan.specs.File.{Task, Plan, taskAt, allOutputs}
 use Rattle.plan.specs.Order.{numbers, order}
 use Rattle.plan.proofs.Order.{Perm}
+use Rattle.plan.proofs.Tasks.{outputs-disjoint}
 use Rattle.events.specs.Events.{Event}
 use Rattle.state.specs.declared.State.{State}
-use Rattle.tick.specs.Turns.{finish, deadlineTurn, callOf, answer, releaseTurn}
-use Rattle.tick.specs.Tick.{Moment, writeAll, each, eventsAt, setNow, deadlines, releases, Ticked, ends, zeroTick}
-use Rattle.zero.specs.Zero.{own, ticks}
-use Rattle.zero.proofs.Lists.{own-append}
+use Rattle.trace.specs.Trace.{own}
+use Rattle.trace.proofs.Records.{own-append}
+use Rattle.state.specs.declared.TaskState.{TaskState}
+use Rattle.tick.specs.Turns.{Turn, finish, writesOf, deadlineTurn, releaseTurn}
+use Rattle.tick.specs.Tick.{Moment, writeAll, each, eventsAt, begins, deadlines, releases, Ticked, ends, zeroTick}
+use Rattle.tick.proofs.Values.{NothingWritten, AllWritten, deadline-writing, release-writing}
+use Rattle.tick.proofs.Records.{deadline-owned, release-owned}
+use Rattle.tick.proofs.Writes.{writesOf-nil, writes-commute}
+use Rattle.zero.specs.Zero.{ticks}
 use Rattle.zero.proofs.Order.{Alike, alike-trans, each-alike, perm-alike}
-use Rattle.zero.proofs.Turns.{deadline-owned, deadline-apart, answer-owned, answer-writes}
 
 -- ---- the zero-time tick, with the tasks in the order of their numbers
 -- steps 0 and 1
 unfoldable pub plainDeadlines : Plan → List Event → State → Moment
 plainDeadlines plan events s =
-    each plan (deadlineTurn (s .tick)) (numbers plan) (record { signals = setNow (eventsAt (s .tick) events) (s .signals); tasks = s .tasks; entries = [] })
+    each plan (deadlineTurn (s .tick)) (numbers plan) (begins events s)
 
 -- step 2
 unfoldable pub plainReleases : Plan → List Event → ℕ → Moment → Moment
@@ -47,13 +52,34 @@ shows-sym a = record { state = sym (a .state); own-records = λ k. sym (a .own-r
 pub shows-trans : {u v w : Ticked} → Shows u v → Shows v w → Shows u w
 shows-trans a b = record { state = a .state ∙ b .state; own-records = λ k. a .own-records k ∙ b .own-records k }
 
+-- ---- the writes of two tasks in step 1 commute
+-- whatever a turn writes goes to its task's outputs
+to-outputs : (t i : ℕ) (k : Task) (x : TaskState) → (held : List ℕ) × (deadlineTurn t i k x .writes ≡ writesOf (k .outputs) held)
+to-outputs t i k x = go (deadline-writing t i k x)
+  where
+    u : Turn
+    u = deadlineTurn t i k x
+
+    go : NothingWritten u ⊎ ((k .deadline ≢ 0) × AllWritten t i k u) → (held : List ℕ) × (u .writes ≡ writesOf (k .outputs) held)
+    go (inl n) = ([], n .writes ∙ sym (writesOf-nil (k .outputs)))
+    go (inr a) = (u .state .held, a .1 .writes)
+
+-- and no two tasks have an output in common
+deadline-apart : (plan : Plan) (t : ℕ) → Pairwise _≢_ (allOutputs (plan .tasks)) → (i j : ℕ) (x y : TaskState) (s : List ℕ) → i ≢ j
+    → writeAll (deadlineTurn t i (taskAt plan i) x .writes) (writeAll (deadlineTurn t j (taskAt plan j) y .writes) s)
+    ≡ writeAll (deadlineTurn t j (taskAt plan j) y .writes) (writeAll (deadlineTurn t i (taskAt plan i) x .writes) s)
+deadline-apart plan t r i j x y s d =
+    let u = to-outputs t i (taskAt plan i) x in
+    let v = to-outputs t j (taskAt plan j) y in
+    rw (u .1, v .1) (writes-commute (taskAt plan i .outputs) (u .0) (taskAt plan j .outputs) (v .0) s (outputs-disjoint (plan .tasks) i j d r))
+
 -- ---- where the order of priority is the task numbers in another order, it does not show
 module _ (plan : Plan) (events : List Event) (ordered : Perm (order plan) (numbers plan)) (apart : Pairwise _≢_ (allOutputs (plan .tasks))) where
   -- steps 0 and 1
   deadlines-alike : (s : State) → Alike (deadlines plan events s) (plainDeadlines plan events s)
   unfolding plainDeadlines
   deadlines-alike s =
-      perm-alike plan (deadlineTurn (s .tick)) (λ i k x d. deadline-owned (s .tick) i (taskAt plan i) x k d) (deadline-apart plan (s .tick) apart) ordered _
+      perm-alike plan (deadlineTurn (s .tick)) (λ i k x d. deadline-owned (s .tick) i k (taskAt plan i) x d) (deadline-apart plan (s .tick) apart) ordered _
 
   -- step 2
   releases-alike : (t : ℕ) (m n : Moment) → Alike m n → Alike (releases finish plan events t m) (plainReleases plan events t n)
@@ -61,11 +87,14 @@ module _ (plan : Plan) (events : List Event) (ordered : Perm (order plan) (numbe
   releases-alike t m n a =
       alike-trans
       (perm-alike plan (releaseTurn finish t (m .signals) (eventsAt t events))
-      (λ i k x d. answer-owned finish t (m .signals) i (taskAt plan i) x (callOf t (eventsAt t events) i (taskAt plan i) (x .status)) k d)
-      (λ i j x y s d. rw (answer-writes finish t (m .signals) i (taskAt plan i) x, answer-writes finish t (m .signals) j (taskAt plan j) y))
+      (λ i k x d. release-owned t i k (taskAt plan i) x d finish (m .signals) (eventsAt t events))
+      (λ i j x y s d. rw (nothing i x, nothing j y))
       ordered m)
       (subst⁻¹ (λ g. Alike (each plan (releaseTurn finish t g (eventsAt t events)) (numbers plan) m) (plainReleases plan events t n)) (a .signals)
       (each-alike plan (releaseTurn finish t (n .signals) (eventsAt t events)) (numbers plan) m n a))
+    where
+      nothing : (i : ℕ) (x : TaskState) → releaseTurn finish t (m .signals) (eventsAt t events) i (taskAt plan i) x .writes ≡ []
+      nothing i x = release-writing finish t (m .signals) (eventsAt t events) i (taskAt plan i) x .writes
 
   -- one tick
   tick-shows : (s : State) → Shows (zeroTick plan events s) (plainTick plan events s)

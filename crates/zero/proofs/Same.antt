@@ -3,10 +3,10 @@
 use Prim.Native.Nat.{ℕ, zero, suc, _+_}
 use mathlib.Core.Path.{_≡_, refl, sym, _∙_, ap, ap₂}
 use mathlib.Core.Logic.{_≢_}
-use mathlib.Core.Bool.{Bool, true, false, not, _&&_}
+use mathlib.Core.Bool.{Bool, true, false}
 use mathlib.Core.List.{List, [], _∷_, map}
 use lib.ListN.{length, List·getD-eq-default}
-use lib.Dec.{ltb, eqb}
+use lib.Dec.{ltb}
 use borrow.Author.Tests.{ltb-true, ltb-false}
 use Rattle.limits.specs.Limits.{maxPorts, maxPriority, maxTasks, maxSignals}
 use Rattle.lists.specs.Lists.{tab, Pairwise}
@@ -20,38 +20,28 @@ use Rattle.body.specs.declared.Result.{Result}
 use Rattle.state.specs.State.{stateAt, valueAt, pad, freshTask, fresh}
 use Rattle.state.specs.Steps.{freshAt}
 use Rattle.state.proofs.Laws.{fresh-task-at}
-use Rattle.state.specs.declared.Status.{Status}
-use Rattle.state.specs.declared.Status.the-variants.{READY, ACTIVE, FINISHED, ERROR}
+use Rattle.state.specs.declared.Status.the-variants.{FINISHED}
 use Rattle.state.specs.declared.TaskState.{TaskState}
 use Rattle.state.specs.declared.State.{State}
-use Rattle.tick.specs.Turns.{finish, atDeadline, deadlineOf, deadlineTurn, release, Call, released, overrun, ignored, callOf, answer, releaseTurn}
-use Rattle.tick.specs.Tick.{Moment, visit, each, eventsAt, setNow, zeroTick}
+use Rattle.tick.specs.Turns.{timed, valued, finish, deadlineTurn, release, releaseTurn}
+use Rattle.tick.specs.Tick.{Moment, Act, visit, each, eventsAt, begins, zeroTick}
+use Rattle.tick.proofs.Cases.{deadline-reads, release-reads}
 use Rattle.zero.specs.Zero.{ticks, TaskAlike, DifferOnlyInExecutionAndPriority}
-use Rattle.zero.proofs.Ahead.{Act}
+use Rattle.zero.specs.Theorems.{ExecutionTimesAreNotRead}
 use Rattle.zero.proofs.Plain.{plainDeadlines, plainReleases, plainTick, Shows, shows-eq, shows-sym, shows-trans, ticks-show}
 
 -- ---- the plain tick reads neither priorities nor execution times
 module _ (k l : Task) (same : TaskAlike k l) where
   -- a turn of step 1
   deadline-same : (t i : ℕ) (x : TaskState) → deadlineTurn t i k x ≡ deadlineTurn t i l x
-  unfolding deadlineOf
-  deadline-same t i x =
-      ap (λ (d : ℕ). deadlineOf (x .status) (not (eqb d 0) && eqb t (x .release + d)) t i k x) (same .deadline) ∙ go (x .status) (atDeadline t l (x .release))
-    where
-      go : (p : Status) (b : Bool) → deadlineOf p b t i k x ≡ deadlineOf p b t i l x
-      go READY b = refl
-      go ACTIVE true = refl
-      go ACTIVE false = refl
-      go FINISHED true = rw (same .outputs)
-      go FINISHED false = refl
-      go ERROR b = refl
+  deadline-same t i x = deadline-reads t i k l x (same .deadline) (same .outputs)
 
   -- the body
   body-same : (latched : List ℕ) (machine : ℕ) (held : List ℕ) → body k latched machine held ≡ body l latched machine held
   unfolding body supervise control
   body-same latched machine held = rw (same .kind, same .transitions, same .actions)
 
-  -- a released task whose body runs at once
+  -- a released task whose body runs at once: its execution time is not read
   finish-same : (t : ℕ) (signals : List ℕ) (x : TaskState) → finish k (release t signals k x) ≡ finish l (release t signals l x)
   finish-same t signals x =
       ap (λ (inputs : List ℕ). left (latched inputs) (body k (latched inputs) (x .machine) (x .held))) (same .inputs)
@@ -61,23 +51,11 @@ module _ (k l : Task) (same : TaskAlike k l) where
       latched inputs = pad maxPorts 0 (map (valueAt signals) inputs)
 
       left : List ℕ → Result → TaskState
-      left xs r = record { status = FINISHED; remaining = 0; release = t; machine = r .machine; latched = xs; held = r .held }
-
-  -- what its turn of step 2 comes to
-  call-same : (t : ℕ) (now : List Event) (i : ℕ) (p : Status) → callOf t now i k p ≡ callOf t now i l p
-  call-same t now i p = rw (same .period, same .offset, same .deadline)
-
-  -- what it then does
-  answer-same : (t : ℕ) (signals : List ℕ) (i : ℕ) (x : TaskState) (c : Call) → answer finish t signals i k x c ≡ answer finish t signals i l x c
-  unfolding answer
-  answer-same t signals i x (released n) = rw (finish-same t signals x)
-  answer-same t signals i x overrun = refl
-  answer-same t signals i x (ignored n) = refl
+      left xs r = timed FINISHED 0 t (valued (r .machine) xs (r .held) x)
 
   -- a turn of step 2
   release-same : (t : ℕ) (signals : List ℕ) (now : List Event) (i : ℕ) (x : TaskState) → releaseTurn finish t signals now i k x ≡ releaseTurn finish t signals now i l x
-  release-same t signals now i x =
-      ap (answer finish t signals i k x) (call-same t now i (x .status)) ∙ answer-same t signals i x (callOf t now i l (x .status))
+  release-same t signals now i x = release-reads t i k l x (same .deadline) finish signals now (same .period) (same .offset) (finish-same t signals x)
 
   -- a fresh task
   fresh-same : (signals : List ℕ) → freshTask signals k ≡ freshTask signals l
@@ -111,7 +89,7 @@ module _ (plan other : Plan) (same : DifferOnlyInExecutionAndPriority plan other
   unfolding plainTick plainReleases plainDeadlines
   plain-same events s =
       let t = s .tick in
-      let m : Moment = record { signals = setNow (eventsAt t events) (s .signals); tasks = s .tasks; entries = [] } in
+      let m = begins events s in
       let m₁ = each other (deadlineTurn t) (numbers other) m in
       rw (
         same .count,
@@ -169,7 +147,7 @@ module _ (plan other : Plan) (same : DifferOnlyInExecutionAndPriority plan other
   unfolding zeroTick
   tick-same events s =
       let t = s .tick in
-      let m : Moment = record { signals = setNow (eventsAt t events) (s .signals); tasks = s .tasks; entries = [] } in
+      let m = begins events s in
       let m₁ = each other (deadlineTurn t) (order other) m in
       rw (
         order-same,
@@ -184,6 +162,7 @@ module _ (plan other : Plan) (same : DifferOnlyInExecutionAndPriority plan other
   ticks-same events zero s = refl
   ticks-same events (suc n) s = rw (tick-same events s, ticks-same events n (zeroTick other events s .state))
 
-  -- and from the fresh state
-  pub execution-not-read : (events : List Event) (n : ℕ) → ticks (zeroTick plan events) n (fresh plan) ≡ ticks (zeroTick other events) n (fresh other)
-  execution-not-read events n = ap (ticks (zeroTick plan events) n) (starts-same plan other same) ∙ ticks-same events n (fresh other)
+-- and from the fresh state
+pub execution-not-read : ExecutionTimesAreNotRead
+execution-not-read plan other same ranked events n =
+    ap (ticks (zeroTick plan events) n) (starts-same plan other same) ∙ ticks-same plan other same ranked events n (fresh other)

@@ -2,12 +2,15 @@
 use Prim.Native.Nat.{ℕ, zero, suc, _+_, _≤_}
 use native.Mathlib.Nat.{zero-add, le-of-suc-le-suc, not-suc-le-zero}
 use mathlib.Core.Path.{_≡_, sym, _∙_, ap}
+use mathlib.Core.Logic.{_≢_}
 use mathlib.Core.List.{_++_, append-assoc}
 use native.Mathlib.Omega.{arith}
+use Rattle.lists.proofs.Tests.{every-append, every-join}
+use Rattle.trace.specs.Trace.{missKind}
+use Rattle.trace.specs.declared.Entry.{Entry}
 use Rattle.state.specs.declared.State.{State}
 use Rattle.tick.specs.Tick.{Ticked}
 use Rattle.zero.specs.Zero.{NoMiss, ticks}
-use Rattle.zero.proofs.Lists.{noMiss-left, noMiss-right, noMiss-both}
 
 module _ (step : State → Ticked) where
   -- m ticks and n more are m + n ticks
@@ -36,4 +39,23 @@ module _ (step : State → Ticked) where
   noMiss-before (suc k) (suc n) s l h =
       let es = step s .entries in
       let rest = ticks step n (step s .state) .entries in
-      noMiss-both es (ticks step k (step s .state) .entries) (noMiss-left es rest h) (noMiss-before k n (step s .state) (le-of-suc-le-suc l) (noMiss-right es rest h))
+      let E : Entry → Type 0 = λ e. e .kind ≢ missKind in
+      let both = every-append E es rest h in
+      every-join E es (ticks step k (step s .state) .entries) (both .0) (noMiss-before k n (step s .state) (le-of-suc-le-suc l) (both .1))
+
+  -- the last of them is a tick from the state before
+  pub ticks-next : (n : ℕ) (s : State) → ticks step (n + 1) s .state ≡ step (ticks step n s .state) .state
+  unfolding ticks
+  ticks-next n s = sym (ticks-state n 1 s)
+
+  -- what each tick keeps, n ticks keep
+  pub ticks-keep : (P : State → Type 0) → ((s : State) → P s → P (step s .state)) → (n : ℕ) (s : State) → P s → P (ticks step n s .state)
+  unfolding ticks
+  ticks-keep P f zero s p = p
+  ticks-keep P f (suc n) s p = ticks-keep P f n (step s .state) (f s p)
+
+  -- each tick is one later
+  pub ticks-later : ((s : State) → step s .state .tick ≡ s .tick + 1) → (n : ℕ) (s : State) → ticks step n s .state .tick ≡ s .tick + n
+  unfolding ticks
+  ticks-later f zero s = omega arith
+  ticks-later f (suc n) s = let a = ticks-later f n (step s .state) in let b = f s in omega arith

@@ -10,7 +10,7 @@ use Rattle.lists.specs.Lists.{Every}
 use Rattle.answers.specs.Answers.{said}
 use Rattle.plan.specs.File.{Task, Plan, planOf, taskAt}
 use Rattle.events.specs.Events.{eventsOf}
-use Rattle.trace.specs.Trace.{missKind, traceAfter, recordsIn}
+use Rattle.trace.specs.Trace.{missKind, traceAfter, recordsIn, own, before}
 use Rattle.trace.specs.declared.Entry.{Entry}
 use Rattle.state.specs.State.{fresh}
 use Rattle.state.specs.declared.State.{State}
@@ -26,16 +26,6 @@ WithoutDeadline0 plan = Every (λ k. k .deadline ≢ 0) (plan .tasks)
 -- "3 deadline missed": no record of a list is one
 abbrev pub NoMiss : List Entry → Type 0
 NoMiss entries = Every (λ e. e .kind ≢ missKind) entries
-
--- "each task's lines": the records of task i, in their order
-unfoldable pub own : ℕ → List Entry → List Entry
-own i [] = []
-own i (e ∷ es) = cond (eqb (e .task) i) (e ∷ own i es) (own i es)
-
--- the records before tick k: those of an instant below k
-unfoldable pub before : ℕ → List Entry → List Entry
-before k [] = []
-before k (e ∷ es) = cond (ltb (e .instant) k) (e ∷ before k es) (before k es)
 
 -- ---- n ticks, each from the state that the one before left: the last state, and all records as they come
 unfoldable pub ticks : (State → Ticked) → ℕ → State → Ticked
@@ -111,6 +101,12 @@ pub record Service (planBytes eventBytes : List ℕ) (started : Started) (calls 
   pub inTurn : InTurn planBytes eventBytes (started .state) calls
 
 -- ---- what is proved
+-- the signals that come back after k ticks from a fresh start, in however many calls: of every service that ran k ticks
+abbrev pub SignalsAfter : List ℕ → List ℕ → ℕ → List ℕ → Type 0
+SignalsAfter planBytes eventBytes k signals =
+    (started : Started) (calls : List Called) → Service planBytes eventBytes started calls → ticksOf calls ≡ k
+    → lastState (started .state) calls .signals ≡ signals
+
 -- what one call gave from the fresh state is what the zero-time reading gives in as many ticks
 pub record CallReads (planBytes eventBytes lent left : List ℕ) (r : Outcome) : Type 0 where
   -- all its records, in their order; so also each task's own
@@ -122,7 +118,7 @@ pub record CallReads (planBytes eventBytes lent left : List ℕ) (r : Outcome) :
   pub state : r .state ≡ kernelRun planBytes eventBytes (r .ticks) .state
   pub last : r .state .signals ≡ zeroRun planBytes eventBytes (r .ticks) .state .signals
   -- and so are the signals after every tick before
-  pub signals : (k : ℕ) → k ≤ r .ticks → kernelRun planBytes eventBytes k .state .signals ≡ zeroRun planBytes eventBytes k .state .signals
+  pub signals : (k : ℕ) → k ≤ r .ticks → SignalsAfter planBytes eventBytes k (zeroRun planBytes eventBytes k .state .signals)
 
 -- what calls in turn gave from the fresh state, all together
 pub record ServiceReads (planBytes eventBytes : List ℕ) (started : Started) (calls : List Called) : Type 0 where
@@ -135,15 +131,21 @@ pub record ServiceReads (planBytes eventBytes : List ℕ) (started : Started) (c
   pub state : lastState (started .state) calls ≡ kernelRun planBytes eventBytes (ticksOf calls) .state
   pub last : lastState (started .state) calls .signals ≡ zeroRun planBytes eventBytes (ticksOf calls) .state .signals
   -- and so are the signals after every tick before
-  pub signals : (k : ℕ) → k ≤ ticksOf calls → kernelRun planBytes eventBytes k .state .signals ≡ zeroRun planBytes eventBytes k .state .signals
+  pub signals : (k : ℕ) → k ≤ ticksOf calls → SignalsAfter planBytes eventBytes k (zeroRun planBytes eventBytes k .state .signals)
 
 -- the same before tick k only, whatever comes later
 pub record ReadsBefore (k : ℕ) (planBytes eventBytes : List ℕ) (calls : List Called) : Type 0 where
   pub records : before k (allRecords calls) ≡ zeroRun planBytes eventBytes k .entries
   pub own-records : (i : ℕ) → own i (before k (allRecords calls)) ≡ own i (zeroRun planBytes eventBytes k .entries)
-  pub signals : kernelRun planBytes eventBytes k .state .signals ≡ zeroRun planBytes eventBytes k .state .signals
+  pub signals : SignalsAfter planBytes eventBytes k (zeroRun planBytes eventBytes k .state .signals)
 
--- two runs show the same: each task's own records, and all signals
+-- two services show the same: each task's own records, and all signals
 pub record ShowSame (state : State) (entries : List Entry) (state′ : State) (entries′ : List Entry) : Type 0 where
   pub own-records : (i : ℕ) → own i entries ≡ own i entries′
   pub signals : state .signals ≡ state′ .signals
+
+-- two plans show the same before tick k: each task's own records, and the signals that come back after k ticks
+pub record ShowSameBefore (k : ℕ) (planBytes otherBytes eventBytes : List ℕ) (entries entries′ : List Entry) : Type 0 where
+  pub own-records : (i : ℕ) → own i (before k entries) ≡ own i (before k entries′)
+  pub signals : (started : Started) (calls : List Called) → Service otherBytes eventBytes started calls → ticksOf calls ≡ k
+      → SignalsAfter planBytes eventBytes k (lastState (started .state) calls .signals)

@@ -1,13 +1,13 @@
 -- What steps 1, 2 and 3 do to the status, the remaining ticks and the release instant of one task: they stay as a state that fits has them.
-use Prim.Native.Nat.{ℕ, zero, suc, _+_, _-_, _*_, _/_, _%_, _≤_, _<_}
-use mathlib.Core.Path.{_≡_, refl, sym, ap, _∙_}
+use Prim.Native.Nat.{ℕ, _+_, _-_, _*_, _/_, _%_, _≤_, _<_}
+use mathlib.Core.Path.{_≡_, refl, sym, ap, _∙_, subst, subst⁻¹}
 use mathlib.Core.Logic.{_≢_, _⊎_, inl, inr}
-use mathlib.Core.Bool.{Bool, true, false, cond, not, false≢true}
+use mathlib.Core.Bool.{true, false, not, false≢true}
 use mathlib.Core.List.{List}
 use native.Mathlib.Omega.{arith}
 use native.Mathlib.Nat.{pos-of-ne-zero, div-add-mod', mul-mod-left}
 use lib.Dec.{eqb, leb}
-use borrow.Author.Tests.{eqb-true, eqb-false, eq-eqb, le-leb, leb-true}
+use borrow.Author.Tests.{eqb-true, eq-eqb, ne-eqb, le-leb, leb-true}
 use Rattle.lists.specs.Lists.{Between}
 use Rattle.lists.proofs.Laws.{and-left, and-right, and-both}
 use Rattle.lists.proofs.Tests.{not-iff, same-or-not}
@@ -18,7 +18,9 @@ use Rattle.state.specs.Fitting.{InFlight, AtRest, Multiple, Timed}
 use Rattle.state.specs.declared.Status.{Status}
 use Rattle.state.specs.declared.Status.the-variants.{READY, ACTIVE, FINISHED, ERROR}
 use Rattle.state.specs.declared.TaskState.{TaskState}
-use Rattle.tick.specs.Turns.{quiet, finish, writeOut, atDeadline, deadlineOf, deadlineTurn, due, requests, periodicCall, eventCall, waits, answer, releaseTurn, isActive, loses, runTurn}
+use Rattle.state.proofs.Statuses.{ready-active, active-finished, active-error, rest-flight}
+use Rattle.tick.specs.Turns.{Turn, atDeadline, deadlineTurn, due, waits, releaseTurn, isActive, runTurn}
+use Rattle.tick.proofs.Cases.{active-is, Deadline, rests, misses, writes, deadline-is, asked, Release, starts, overruns, stays, release-is, Running, goes-on, finishes, writes-at-once, run-is}
 
 -- ---- a task in flight, released at r, before tick t
 pub record Flight (t : ℕ) (k : Task) (r : ℕ) : Type 0 where
@@ -47,32 +49,20 @@ Stands F ERROR t k remaining r = (remaining ≡ 0) × (r ≡ 0)
 abbrev pub StandsAt : (ℕ → Task → ℕ → Type 0) → ℕ → Task → TaskState → Type 0
 StandsAt F t k x = Stands F (x .status) t k (x .remaining) (x .release)
 
--- ---- the four are different
-tag : Status → ℕ
-tag READY = 0
-tag ACTIVE = 1
-tag FINISHED = 2
-tag ERROR = 3
-
--- by their tags
-apart : (a b : Status) → tag a ≢ tag b → a ≢ b
-apart a b d e = d (ap tag e)
-
 module _ (t : ℕ) (k : Task) (remaining r : ℕ) where
   -- a state that fits has it so
   pub stands : (p : Status) → Timed t k p remaining r → Stands Flight p t k remaining r
-  unfolding tag
-  stands READY h = (h .others (apart READY ACTIVE (λ z. absurd (omega arith))), h .atRest (inl refl))
+  stands READY h = (h .others (ready-active READY refl), h .atRest (inl refl))
   stands ACTIVE h = (
     h .active refl,
     record { released = h .released (inl refl); inTime = h .inTime (inl refl); offset = h .offset (inl refl); multiple = h .multiple (inl refl); inPeriod = h .inPeriod (inl refl) },
   )
   stands FINISHED h = (
-    h .others (apart FINISHED ACTIVE (λ z. absurd (omega arith))),
+    h .others (λ e. active-finished FINISHED e refl),
     h .finished refl,
     record { released = h .released (inr refl); inTime = h .inTime (inr refl); offset = h .offset (inr refl); multiple = h .multiple (inr refl); inPeriod = h .inPeriod (inr refl) },
   )
-  stands ERROR h = (h .others (apart ERROR ACTIVE (λ z. absurd (omega arith))), h .atRest (inr refl))
+  stands ERROR h = (h .others (λ e. active-error ERROR e refl), h .atRest (inr refl))
 
   -- a task that is not in flight
   resting : (p : Status) → (InFlight p → ⊥) → remaining ≡ 0 → r ≡ 0 → Timed t k p remaining r
@@ -87,16 +77,6 @@ module _ (t : ℕ) (k : Task) (remaining r : ℕ) where
     inPeriod = λ f. absurd (none f);
     atRest = λ e. b;
   }
-
-  -- neither ACTIVE nor FINISHED
-  no-flight : (p : Status) → p ≢ ACTIVE → p ≢ FINISHED → InFlight p → ⊥
-  no-flight p a b (inl e) = a e
-  no-flight p a b (inr e) = b e
-
-  -- neither READY nor ERROR
-  no-rest : (p : Status) → p ≢ READY → p ≢ ERROR → AtRest p → ⊥
-  no-rest p a b (inl e) = a e
-  no-rest p a b (inr e) = b e
 
   -- one in flight
   flying : (p : Status) → (p ≡ ACTIVE → Between 1 (k .execution) remaining) → (p ≢ ACTIVE → remaining ≡ 0) → (p ≡ FINISHED → 0 < k .deadline)
@@ -115,19 +95,12 @@ module _ (t : ℕ) (k : Task) (remaining r : ℕ) where
 
   -- and the other way round
   pub timed : (p : Status) → Stands Flight p t k remaining r → Timed t k p remaining r
-  unfolding tag
-  timed READY h = resting READY (no-flight READY (apart READY ACTIVE (λ z. absurd (omega arith))) (apart READY FINISHED (λ z. absurd (omega arith)))) (h .0) (h .1)
+  timed READY h = resting READY (rest-flight READY (inl refl)) (h .0) (h .1)
   timed ACTIVE h =
-      flying ACTIVE (λ e. h .0) (λ d. absurd (d refl)) (λ e. absurd (apart ACTIVE FINISHED (λ z. absurd (omega arith)) e))
-      (no-rest ACTIVE (apart ACTIVE READY (λ z. absurd (omega arith))) (apart ACTIVE ERROR (λ z. absurd (omega arith)))) (h .1)
+      flying ACTIVE (λ e. h .0) (λ d. absurd (d refl)) (λ e. absurd (active-finished ACTIVE refl e)) (λ a. rest-flight ACTIVE a (inl refl)) (h .1)
   timed FINISHED h =
-      flying FINISHED (λ e. absurd (apart FINISHED ACTIVE (λ z. absurd (omega arith)) e)) (λ d. h .0) (λ e. h .1)
-      (no-rest FINISHED (apart FINISHED READY (λ z. absurd (omega arith))) (apart FINISHED ERROR (λ z. absurd (omega arith)))) (h .2)
-  timed ERROR h = resting ERROR (no-flight ERROR (apart ERROR ACTIVE (λ z. absurd (omega arith))) (apart ERROR FINISHED (λ z. absurd (omega arith)))) (h .0) (h .1)
-
--- a task state with another status
-abbrev with : Status → TaskState → TaskState
-with p x = record { status = p; remaining = x .remaining; release = x .release; machine = x .machine; latched = x .latched; held = x .held }
+      flying FINISHED (λ e. absurd (active-finished FINISHED e refl)) (λ d. h .0) (λ e. h .1) (λ a. rest-flight FINISHED a (inr refl)) (h .2)
+  timed ERROR h = resting ERROR (rest-flight ERROR (inr refl)) (h .0) (h .1)
 
 -- ---- step 1
 module _ (t i : ℕ) (k : Task) (x : TaskState) where
@@ -140,19 +113,21 @@ module _ (t i : ℕ) (k : Task) (x : TaskState) where
           absurd (false≢true (sym e ∙ and-both (not (eqb (k .deadline) 0)) (eqb t (x .release + k .deadline)) (not-iff (k .deadline) 0 .1 (λ z. absurd (omega arith))) (eq-eqb _ _ same)))
       go d (inr other) = let most = f .inTime d in omega arith
 
+  -- by status, where its deadline is not now
+  ahead : (p : Status) → (InFlight p → atDeadline t k (x .release) ≡ false) → Stands Flight p t k (x .remaining) (x .release) → Stands Ahead p t k (x .remaining) (x .release)
+  ahead READY f h = h
+  ahead ACTIVE f h = (h .0, later (f (inl refl)) (h .1))
+  ahead FINISHED f h = (h .0, h .1, later (f (inr refl)) (h .2))
+  ahead ERROR f h = h
+
   -- after step 1
   pub deadline-stands : StandsAt Flight t k x → StandsAt Ahead t k (deadlineTurn t i k x .state)
-  unfolding deadlineOf
-  deadline-stands h = go (x .status) (atDeadline t k (x .release)) refl h
+  deadline-stands h = go (deadline-is t i k x)
     where
-      go : (p : Status) (b : Bool) → atDeadline t k (x .release) ≡ b → Stands Flight p t k (x .remaining) (x .release)
-          → StandsAt Ahead t k (deadlineOf p b t i k (with p x) .state)
-      go READY b e h = h
-      go ACTIVE true e h = (refl, refl)
-      go ACTIVE false e h = (h .0, later e (h .1))
-      go FINISHED true e h = (refl, refl)
-      go FINISHED false e h = (h .0, h .1, later e (h .2))
-      go ERROR b e h = h
+      go : {u : Turn} → Deadline t i k x u → StandsAt Ahead t k (u .state)
+      go (rests f) = ahead (x .status) f h
+      go (misses a z) = (refl, refl)
+      go (writes f z) = (refl, refl)
 
 -- ---- step 2
 multiple-mod : (d n : ℕ) → Multiple d n → n % d ≡ 0
@@ -195,8 +170,8 @@ module _ (t : ℕ) (signals : List ℕ) (now : List Event) (i : ℕ) (k : Task) 
       go (inr other) = let l = f .inPeriod p in omega arith
 
   -- released now
-  starts : (0 < k .period → due t k ≡ true) → Flight (t + 1) k t
-  starts d = record {
+  begun : (0 < k .period → due t k ≡ true) → Flight (t + 1) k t
+  begun d = record {
     released = omega arith;
     inTime = λ l. omega arith;
     offset = λ p. leb-true (k .offset) t (and-left (leb (k .offset) t) (eqb ((t - k .offset) % k .period) 0) (d p));
@@ -204,40 +179,41 @@ module _ (t : ℕ) (signals : List ℕ) (now : List Event) (i : ℕ) (k : Task) 
     inPeriod = λ p. omega arith;
   }
 
+  -- by status, where nothing asks for it
+  stays-on : (p : Status) → (p ≡ ACTIVE → k .period ≢ 0 → k .deadline ≡ 0 → due t k ≡ false) → Stands Ahead p t k (x .remaining) (x .release)
+      → Stands Flight p (t + 1) k (x .remaining) (x .release)
+  stays-on READY f h = h
+  stays-on ACTIVE f h = (h .0, longer (h .1) (λ w p. not-due (h .1) (f refl (λ z. absurd (omega arith)) w) p))
+  stays-on FINISHED f h = (h .0, h .1, longer (h .2) (λ w p. absurd (let l = h .1 in omega arith)))
+  stays-on ERROR f h = h
+
+  -- a periodic task that is asked is due
+  asked-due : asked t now i k ≡ true → 0 < k .period → due t k ≡ true
+  asked-due a p = rw (ne-eqb (k .period) 0 (λ z. absurd (omega arith))) at a
+
   -- after step 2
   pub release-stands : StandsAt Ahead t k x → StandsAt Flight (t + 1) k (releaseTurn waits t signals now i k x .state)
-  unfolding answer eventCall periodicCall
-  release-stands h = go (x .status) (requests i now) (eqb (k .period) 0) (due t k) (eqb (k .deadline) 0) refl refl refl h
+  release-stands h = go (release-is waits t signals now i k x)
     where
-      whole : Between 1 (k .execution) (k .execution)
-      whole = (timing .execution .0, omega arith)
-
-      go : (p : Status) (n : ℕ) (e d z : Bool) → eqb (k .period) 0 ≡ e → due t k ≡ d → eqb (k .deadline) 0 ≡ z → Stands Ahead p t k (x .remaining) (x .release)
-          → StandsAt Flight (t + 1) k (answer waits t signals i k (with p x) (cond e (eventCall p n) (periodicCall p d z)) .state)
-      go READY zero true d z ee ed ez h = h
-      go READY (suc n) true d z ee ed ez h = (whole, starts (λ p. absurd (let q = eqb-true (k .period) 0 ee in omega arith)))
-      go READY n false true z ee ed ez h = (whole, starts (λ p. ed))
-      go READY n false false z ee ed ez h = h
-      go ACTIVE n true d z ee ed ez h = (h .0, longer (h .1) (λ w p. absurd (let q = eqb-true (k .period) 0 ee in omega arith)))
-      go ACTIVE n false true true ee ed ez h = (refl, refl)
-      go ACTIVE n false true false ee ed ez h = (h .0, longer (h .1) (λ w p. absurd (eqb-false (k .deadline) 0 ez w)))
-      go ACTIVE n false false z ee ed ez h = (h .0, longer (h .1) (λ w p. not-due (h .1) ed p))
-      go FINISHED n true d z ee ed ez h = (h .0, h .1, longer (h .2) (λ w p. absurd (let l = h .1 in omega arith)))
-      go FINISHED n false d z ee ed ez h = (h .0, h .1, longer (h .2) (λ w p. absurd (let l = h .1 in omega arith)))
-      go ERROR n true d z ee ed ez h = h
-      go ERROR n false d z ee ed ez h = h
+      go : {u : Turn} → Release waits t signals now i k x u → StandsAt Flight (t + 1) k (u .state)
+      go (starts e a) = ((timing .execution .0, omega arith), begun (asked-due a))
+      go (overruns e p d a) = (refl, refl)
+      go (stays u) = stays-on (x .status) (u .active) h
 
 -- ---- step 3
-module _ (t i : ℕ) (k : Task) (x : TaskState) where
-  pub run-stands : (u : ℕ) → isActive (x .status) ≡ true → StandsAt Flight u k x → StandsAt Flight u k (runTurn t i k x .state)
-  unfolding isActive
-  run-stands u a h = go (x .status) a h (eqb (x .remaining - 1) 0) (eqb (k .deadline) 0) refl refl
-    where
-      go : (p : Status) → isActive p ≡ true → Stands Flight p u k (x .remaining) (x .release) → (b c : Bool) → eqb (x .remaining - 1) 0 ≡ b → eqb (k .deadline) 0 ≡ c
-          → StandsAt Flight u k (cond b (cond c (writeOut t i k (finish k (with p x))) (quiet (finish k (with p x)))) (quiet (loses (with p x))) .state)
-      go READY e h b c eb ec = absurd (false≢true e)
-      go ACTIVE e h true true eb ec = (refl, refl)
-      go ACTIVE e h true false eb ec = (refl, pos-of-ne-zero (eqb-false (k .deadline) 0 ec), h .1)
-      go ACTIVE e h false c eb ec = let d = eqb-false (x .remaining - 1) 0 eb in let l = h .0 .1 in ((omega (arith, d), omega arith), h .1)
-      go FINISHED e h b c eb ec = absurd (false≢true e)
-      go ERROR e h b c eb ec = absurd (false≢true e)
+pub run-stands : (t i : ℕ) (k : Task) (x : TaskState) (u : ℕ) → isActive (x .status) ≡ true → StandsAt Flight u k x → StandsAt Flight u k (runTurn t i k x .state)
+run-stands t i k x u a h = go (run-is t i k x)
+  where
+    e : x .status ≡ ACTIVE
+    e = active-is (x .status) a
+
+    -- what is known of it, as of an ACTIVE task
+    known : Between 1 (k .execution) (x .remaining) × Flight u k (x .release)
+    known = subst (λ p. Stands Flight p u k (x .remaining) (x .release)) e h
+
+    go : {v : Turn} → Running t i k x v → StandsAt Flight u k (v .state)
+    go (goes-on d) =
+        let l = known .0 .1 in
+        subst⁻¹ (λ p. Stands Flight p u k (x .remaining - 1) (x .release)) e ((omega (arith, d), omega arith), known .1)
+    go (finishes z d) = (refl, pos-of-ne-zero d, known .1)
+    go (writes-at-once z d) = (refl, refl)

@@ -11,20 +11,13 @@ use lib.Seq.{getD-set-other}
 use lib.Dec.{eqb, leb, ltb}
 use borrow.Author.Tests.{eqb-true, eqb-false, eq-eqb, ne-eqb, leb-true}
 use Rattle.limits.specs.Limits.{topValue, maxState, maxPorts}
-use Rattle.lists.specs.Lists.{Every, Between}
-use Rattle.lists.proofs.Laws.{and-left}
+use Rattle.lists.specs.Lists.{Every, Between, If, PaddedFrom}
+use Rattle.lists.proofs.Laws.{and-left, set-padded}
+use Rattle.lists.proofs.Tests.{every-weaker}
 use Rattle.plan.specs.File.{Transition, Action, Task}
 use Rattle.plan.specs.Accepted.{ActionGood, Body}
+use Rattle.body.proofs.Laws.{turns-keep}
 use Rattle.body.specs.Body.{input, inTurn, mayFire, sooner, look, fires, after, isUpdated, wrapsAt, move, doAction, perform, runIf, supervise, control, body}
-use Rattle.zero.proofs.Lists.{every-weaker}
-use Rattle.promises.proofs.View.{If}
-
--- ---- what each step keeps, all of them keep
-pub turns-keep : {A B : Type 0} (P : B → Type 0) (Q : A → Type 0) (step : A → B → B) → ((x : A) (b : B) → Q x → P b → P (step x b))
-    → (xs : List A) (b : B) → Every Q xs → P b → P (inTurn step xs b)
-unfolding inTurn
-turns-keep P Q step f [] b q p = p
-turns-keep P Q step f (x ∷ xs) b q p = turns-keep P Q step f xs (step x b) (q .1) (f x b (q .0) p)
 
 -- ---- the machine state: the transition that is taken is one of the task's
 sooner-one : (Q : Transition → Type 0) (x : Transition) (best : Option Transition) → Q x → If Q best → If Q (sooner x best)
@@ -120,29 +113,20 @@ module _ (k : Task) (P : List ℕ → Type 0) (reports : k .kind ≡ 1 → (h : 
       go false e = acts-keep (not (eqb (input latched 1) 0)) latched (input latched 0) h p
 
 -- ---- how many held outputs there are, and "held outputs beyond .. no, are 0"
-pub record Ports (n : ℕ) (held : List ℕ) : Type 0 where
-  pub size : length held ≡ maxPorts
-  pub zeros : (i : ℕ) → n ≤ i → getD held i 0 ≡ 0
-
--- an output of the task is set
-pub set-ports : (n : ℕ) (held : List ℕ) (a v : ℕ) → a < n → Ports n held → Ports n (set held a v)
-set-ports n held a v l h =
-    record { size = length-set held a v ∙ h .size; zeros = λ i from. getD-set-other held a i v 0 (λ e. absurd (omega arith)) ∙ h .zeros i from }
-
 -- an action whose outputs are below n
-acted-ports : (n : ℕ) (latched : List ℕ) (x : Action) (held : List ℕ) → x .a < n → (x .kind ≡ 4 → x .b < n) → {l : List ℕ} → Acted latched x held l → Ports n held → Ports n l
-acted-ports n latched x held a b (sets v d) h = set-ports n held (x .a) v a h
-acted-ports n latched x held a b (moves e unmoved) h = h
-acted-ports n latched x held a b (moves e (moved l)) h = set-ports n _ (x .b) _ (b e) (set-ports n held (x .a) _ a h)
+acted-padded : (n : ℕ) (latched : List ℕ) (x : Action) (held : List ℕ) → x .a < n → (x .kind ≡ 4 → x .b < n) → {l : List ℕ} → Acted latched x held l → PaddedFrom n maxPorts held → PaddedFrom n maxPorts l
+acted-padded n latched x held a b (sets v d) h = set-padded n maxPorts held (x .a) v a h
+acted-padded n latched x held a b (moves e unmoved) h = h
+acted-padded n latched x held a b (moves e (moved l)) h = set-padded n maxPorts _ (x .b) _ (b e) (set-padded n maxPorts held (x .a) _ a h)
 
 -- a body of an accepted plan
-pub body-ports : (s : ℕ) (k : Task) → Body s k → (latched : List ℕ) (machine : ℕ) (held : List ℕ) → Ports (length (k .outputs)) held
-    → Ports (length (k .outputs)) (body k latched machine held .held)
-body-ports s k good =
-    body-keeps k (Ports (length (k .outputs)))
+pub body-padded : (s : ℕ) (k : Task) → Body s k → (latched : List ℕ) (machine : ℕ) (held : List ℕ) → PaddedFrom (length (k .outputs)) maxPorts held
+    → PaddedFrom (length (k .outputs)) maxPorts (body k latched machine held .held)
+body-padded s k good =
+    body-keeps k (PaddedFrom (length (k .outputs)) maxPorts)
     (λ one h n u p.
     let two = good .kind .supervisor one .outputs in
-    set-ports _ _ 1 u (omega arith) (set-ports _ h 0 n (omega arith) p))
-    (every-weaker (ActionGood k) (λ x. (latched h : List ℕ) → Ports (length (k .outputs)) h → Ports (length (k .outputs)) (doAction latched x h))
-    (λ x g latched h p. acted-ports (length (k .outputs)) latched x h (g .a) (λ e. g .move e .0) (action-is latched x h (g .kind)) p)
+    set-padded _ maxPorts _ 1 u (omega arith) (set-padded _ maxPorts h 0 n (omega arith) p))
+    (every-weaker (ActionGood k) (λ x. (latched h : List ℕ) → PaddedFrom (length (k .outputs)) maxPorts h → PaddedFrom (length (k .outputs)) maxPorts (doAction latched x h))
+    (λ x g latched h p. acted-padded (length (k .outputs)) latched x h (g .a) (λ e. g .move e .0) (action-is latched x h (g .kind)) p)
     (k .actions) (good .actions))

@@ -1,0 +1,11 @@
+pub mod Cases
+pub mod Values
+pub mod Records
+pub mod Writes
+pub mod Urgent
+pub mod View
+pub mod Signals
+pub mod Own
+pub mod Timed
+pub mod Ports
+pub mod Active
