@@ -1,3 +1,4 @@
 pub mod Laws
 pub mod Acceptance
 pub mod Sets
+pub mod Computing

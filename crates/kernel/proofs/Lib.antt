@@ -1,3 +1,4 @@
 pub mod Ticks
 pub mod Verdict
 pub mod Ready
+pub mod Computing

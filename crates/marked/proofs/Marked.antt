@@ -4,33 +4,24 @@ use mathlib.Core.Path.{_≡_, refl, sym, ap, _∙_}
 use mathlib.Core.List.{List, [], _∷_, _++_, map}
 use lib.ListN.{length}
 use lib.Dec.{eqb·zero-suc, eqb·suc-suc}
-use Rattle.lists.specs.Lists.{tab, all, absent, Every}
-use Rattle.words.specs.Words.{wordsOf}
-use Rattle.answers.specs.Answers.{said, firstBroken}
-use Rattle.plan.specs.File.{taskOf, planOf, allOutputs}
-use Rattle.plan.specs.Order.{withPriority, inOrder, order}
-use Rattle.plan.specs.Rules.{chained, transitionsRule, taskRules, allNew, afterAll, clashRules, planRules}
-use Rattle.events.specs.Events.{eventRules, passed}
+use Rattle.lists.specs.Lists.{Every}
+use Rattle.answers.specs.Answers.{said}
 use Rattle.trace.specs.Trace.{traceAfter}
 use Rattle.trace.proofs.Laws.{records-laid}
-use Rattle.body.specs.Body.{inTurn, sooner, after, move, doAction, supervise, control, body}
-use Rattle.state.specs.State.{freshTask, fresh, sized}
-use Rattle.state.specs.Fits.{taskFits, taskRule, fits}
-use Rattle.tick.specs.Turns.{writesOf, deadlineOf, requests, periodicCall, eventCall, answer, isActive}
-use Rattle.tick.specs.Tick.{writeAll, each, eventsAt, setNow, better, mostUrgent, visitIf, tick}
-use Rattle.kernel.specs.Call.{startState, Starts, Ran, runRoom, call, Runs}
+use Rattle.kernel.specs.Call.{startState, Starts, Ran, call, Runs}
 use Rattle.kernel.specs.declared.Started.{Started}
 use Rattle.kernel.specs.declared.Outcome.{Outcome}
-use Rattle.marked.specs.Marked.{traceWords, recordLine, runLines, printed, printedOn, outcomeLines, decimal, spaced, lineTexts, text, bytesOf, inARow, taskWords, contents, fileOf, eventFile, task0, task1, sample, supervisor, sampleLines, Marked, Prints, EntriesPrint, inputOf, p1, p2, p3, p4, p5, p6, p7, p8-done, p8-not, p9, p10, p11-accepted, p11-ignored, marked, ownAmong, ownLines}
+use Rattle.marked.specs.Marked.{traceWords, runLines, printed, printedOn, outcomeLines, decimal, spaced, lineTexts, text, sampleLines, Marked, Prints, EntriesPrint, inputOf, p1, p4, marked, ownAmong, ownLines}
+use Rattle.marked.proofs.Computing.{computing-examples, computing-marked}
 
 -- "P1 to P11 are proved of the definitions by a single statement over a list"
 pub marked-prints : Every Prints marked
-unfolding tab all absent wordsOf firstBroken taskOf planOf allOutputs withPriority inOrder order chained transitionsRule taskRules allNew afterAll clashRules planRules eventRules passed inTurn sooner after move doAction supervise control body freshTask fresh sized taskFits taskRule fits writesOf deadlineOf requests periodicCall eventCall answer isActive writeAll each eventsAt setNow better mostUrgent visitIf tick runRoom bytesOf inARow taskWords contents fileOf eventFile task0 task1 sample supervisor sampleLines p1 p2 p3 p4 p5 p6 p7 p8-done p8-not p9 p10 p11-accepted p11-ignored
+unfolding computing-marked
 marked-prints = (refl, (refl, (refl, (refl, (refl, (refl, (refl, (refl, (refl, (refl, (refl, (refl, (refl, tt)))))))))))))
 
 -- none is left out
 pub marked-numbers : map (λ m. m .number) marked ≡ 1 ∷ 2 ∷ 3 ∷ 4 ∷ 5 ∷ 6 ∷ 7 ∷ 8 ∷ 8 ∷ 9 ∷ 10 ∷ 11 ∷ 11 ∷ []
-unfolding p1 p2 p3 p4 p5 p6 p7 p8-done p8-not p9 p10 p11-accepted p11-ignored
+unfolding computing-examples
 marked-numbers = refl
 
 -- the lines of P4 and of P1, task by task
@@ -70,7 +61,7 @@ marked-entries-print = all-entries-print marked marked-prints
 
 -- ---- the same from standard input
 pub marked-on-input : Every (λ m. printedOn (inputOf m) ≡ m .lines) marked
-unfolding tab all absent wordsOf firstBroken taskOf planOf allOutputs withPriority inOrder order chained transitionsRule taskRules allNew afterAll clashRules planRules eventRules passed inTurn sooner after move doAction supervise control body freshTask fresh sized taskFits taskRule fits writesOf deadlineOf requests periodicCall eventCall answer isActive writeAll each eventsAt setNow better mostUrgent visitIf tick runRoom bytesOf inARow taskWords contents fileOf eventFile task0 task1 sample supervisor sampleLines p1 p2 p3 p4 p5 p6 p7 p8-done p8-not p9 p10 p11-accepted p11-ignored
+unfolding computing-marked
 marked-on-input = (refl, (refl, (refl, (refl, (refl, (refl, (refl, (refl, (refl, (refl, (refl, (refl, (refl, tt)))))))))))))
 
 -- ---- the sample, byte for byte
@@ -90,7 +81,7 @@ pub sample-input : inputOf p1 ≡
     ∷ 0 ∷ 0 ∷ 0 ∷ 0 ∷ 2 ∷ 0 ∷ 0 ∷ 0 ∷ 0 ∷ 0 ∷ 0 ∷ 0 ∷ 0 ∷ 0 ∷ 0 ∷ 0
     ∷ 0 ∷ 0 ∷ 0 ∷ 0 ∷ 0 ∷ 0 ∷ 0 ∷ 0 ∷ 1 ∷ 0 ∷ 0 ∷ 0
     ∷ []
-unfolding bytesOf inARow taskWords contents fileOf task0 task1 sample p1
+unfolding computing-examples
 sample-input = refl
 
 -- "Twelve ticks, no events, print": the paper's eight lines

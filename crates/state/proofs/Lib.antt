@@ -4,3 +4,4 @@ pub mod Sizes
 pub mod Zeros
 pub mod Fresh
 pub mod Fitting
+pub mod Computing

@@ -7,26 +7,17 @@ use mathlib.Core.Bool.{true, false≢true}
 use mathlib.Core.List.{List, _++_}
 use native.Mathlib.Omega.{arith}
 use lib.ListN.{length, getD, drop}
-use Rattle.lists.specs.Lists.{tab, all, absent}
-use Rattle.words.specs.Words.{wordsOf}
-use Rattle.answers.specs.Answers.{Verdict, verdict, said, firstBroken}
+use Rattle.answers.specs.Answers.{Verdict, verdict, said}
 use Rattle.answers.specs.declared.Answer.the-variants.{Accepted}
-use Rattle.plan.specs.File.{taskOf, planOf, allOutputs}
-use Rattle.plan.specs.Order.{withPriority, inOrder, order}
-use Rattle.plan.specs.Rules.{chained, transitionsRule, taskRules, allNew, afterAll, clashRules, planRules, planVerdict}
-use Rattle.events.specs.Events.{eventRules, passed}
+use Rattle.plan.specs.Rules.{planVerdict}
 use Rattle.trace.specs.Trace.{lines, traceAfter, recordsIn}
-use Rattle.body.specs.Body.{inTurn, sooner, after, move, doAction, supervise, control, body}
-use Rattle.state.specs.State.{freshTask, fresh, sized}
 use Rattle.state.specs.declared.State.{State}
-use Rattle.state.specs.Fits.{taskFits, taskRule, fits}
-use Rattle.tick.specs.Turns.{writesOf, deadlineOf, requests, periodicCall, eventCall, answer, isActive}
-use Rattle.tick.specs.Tick.{writeAll, each, eventsAt, setNow, better, mostUrgent, visitIf, tick, zeroTick}
-use Rattle.kernel.specs.Call.{startState, Starts, Ran, runRoom, call, Runs}
+use Rattle.kernel.specs.Call.{startState, Starts, Ran, call, Runs}
 use Rattle.kernel.specs.declared.Started.{Started}
 use Rattle.kernel.specs.declared.Outcome.{Outcome}
 use Rattle.zero.specs.Zero.{ticks, zeroRun, CallReads}
-use Rattle.marked.specs.Marked.{traceWords, bytesOf, inARow, taskWords, contents, fileOf, task0, task1, sample, Marked, p1, p2, p6}
+use Rattle.marked.specs.Marked.{traceWords, Marked}
+use Rattle.marked.proofs.Computing.{computing-marked}
 use Rattle.strength.specs.Strength.{one, other, RunsFresh, Counts, Kernel, ranOn, leftOn, MeetsOn, RefusesEveryPlan, RefusesEveryRun, FixedTrace, PassesTheState, CopiesAfterTheFirst, CopiesLater, speaks, Silent}
 
 -- ---- what is computed
@@ -63,7 +54,7 @@ record Computed : Type 0 where
   zero-first : (n : ℕ) → speaks (zeroRun (one .plan) (one .events) (suc n) .entries) ≡ true
 
 computed : Computed
-unfolding tab all absent wordsOf firstBroken taskOf planOf allOutputs withPriority inOrder order chained transitionsRule taskRules allNew afterAll clashRules planRules eventRules passed lines inTurn sooner after move doAction supervise control body freshTask fresh sized taskFits taskRule fits writesOf deadlineOf requests periodicCall eventCall answer isActive writeAll each eventsAt setNow better mostUrgent visitIf tick zeroTick runRoom ticks bytesOf inARow taskWords contents fileOf task0 task1 sample p1 p2 p6 speaks
+unfolding computing-marked ticks speaks
 computed = record {
   accepted = refl;
   first-tick = refl;

@@ -9,3 +9,4 @@ pub mod Own
 pub mod Timed
 pub mod Ports
 pub mod Active
+pub mod Computing
