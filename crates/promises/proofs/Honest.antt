@@ -1,20 +1,18 @@
 -- Number 12 never answers a caller who hands on the state that the kernel returned; and a call that ran all its ticks can be made in two.
-use Prim.Native.Nat.{ℕ, zero, suc, _+_, _-_, _*_, _≤_, _<_}
+use Prim.Native.Nat.{ℕ, _+_, _≤_}
 use mathlib.Core.Path.{_≡_, refl, sym, ap, subst, _∙_}
-use mathlib.Core.Logic.{_≢_}
+use mathlib.Core.Logic.{_≢_, _⊎_, inl, inr}
 use mathlib.Core.Bool.{Bool, true, false, cond}
-use mathlib.Core.List.{List, [], _∷_, _++_, map}
+use mathlib.Core.List.{List, [], _∷_}
 use native.Mathlib.Omega.{arith}
 use lib.ListN.{length, length-append}
 use lib.Dec.{eqb, leb}
 use borrow.Author.Tests.{eq-eqb, le-leb}
 use Rattle.limits.specs.Limits.{maxTime}
-use Rattle.words.specs.Words.{wordsOf}
-use Rattle.lists.specs.Lists.{Every}
-use Rattle.answers.specs.Answers.{Verdict, verdict, said, Rule, firstBroken}
-use Rattle.plan.specs.File.{planOf, taskBodies}
-use Rattle.plan.specs.Rules.{planVerdict, taskRules, afterAll, clashRules, priorityOf, headRules, eachTask, priorityRules, outputRules, planRules}
-use Rattle.events.specs.Events.{Event, eventsOf, contentRule, eventRules, eventListRules, checkRules, eventsVerdict}
+use Rattle.answers.specs.Answers.{Verdict}
+use Rattle.plan.specs.File.{planOf}
+use Rattle.plan.specs.Rules.{planVerdict}
+use Rattle.events.specs.Events.{eventsOf, eventsVerdict}
 use Rattle.state.specs.State.{fresh}
 use Rattle.state.specs.Fits.{fits}
 use Rattle.state.specs.Fitting.{Fits}
@@ -22,77 +20,19 @@ use Rattle.state.specs.declared.State.{State}
 use Rattle.state.proofs.Fitting.{fits-exactly}
 use Rattle.state.proofs.Fresh.{fresh-fits}
 use Rattle.tick.specs.Tick.{Ticked, tick}
-use Rattle.kernel.specs.Call.{callVerdict, Ran, stopped, onward, runRoom, call}
-use Rattle.kernel.specs.declared.Started.{Started}
+use Rattle.kernel.specs.Call.{callVerdict, Ran, stopped, runRoom, call}
 use Rattle.kernel.proofs.Verdict.{check-decides, state-decides}
 use Rattle.kernel.proofs.Ready.{events-good, plan-good, fitting, may-run}
-use Rattle.zero.specs.Zero.{ticks, Called, lastState, Service}
-use Rattle.zero.proofs.Lists.{every-join}
+use Rattle.zero.specs.Zero.{ticks, Called, lastState}
 use Rattle.zero.proofs.Ticks.{ticks-entries}
-use Rattle.zero.proofs.Calls.{started-good, started-fresh}
+use Rattle.zero.proofs.Calls.{started-fresh}
+use Rattle.zero.proofs.Keeps.{calls-keep}
+use Rattle.zero.proofs.Theorems.{good}
 use Rattle.promises.specs.Promises.{CalledFrom, AllRun}
+use Rattle.promises.specs.Theorems.{AReturnedStateFits, AReturnedStateIsNeverRefused, RunsSplit}
 use Rattle.promises.proofs.Compose.{call-all, verdict-zero, called-zero, called-state, ticks-tick}
-use Rattle.promises.proofs.Fitted.{called-fits, calls-fit}
-
--- ---- 12 is the number of no rule about the plan or the events
-abbrev Below : List Rule → Type 0
-Below rs = Every (λ r. r .number < 12) rs
-
--- the first broken one has none
-first-below : (rs : List Rule) → Below rs → firstBroken rs .number < 12
-unfolding firstBroken
-first-below [] h = omega arith
-first-below (r ∷ rs) h = go (r .holds) (first-below rs (h .1))
-  where
-    go : (b : Bool) → firstBroken rs .number < 12 → cond b (firstBroken rs) (verdict (r .number) (r .place)) .number < 12
-    go true l = l
-    go false l = h .0
-
--- 4, 5 and 6
-tasks-below : (s i : ℕ) (bodies : List (List ℕ)) → Below (taskRules s i bodies)
-unfolding taskRules
-tasks-below s i [] = tt
-tasks-below s i (ws ∷ rest) = (omega arith, (omega arith, (omega arith, tasks-below s (i + 1) rest)))
-
--- 7 and 8
-clash-below : (number i : ℕ) (l : List ℕ) (lists : List (List ℕ)) → number < 12 → Below (clashRules number i l lists)
-unfolding clashRules
-clash-below number i l [] h = tt
-clash-below number i l (xs ∷ rest) h = (h, clash-below number (i + 1) (afterAll l xs) rest h)
-
--- 10 and 11
-events-below : (good : Event → Bool) (i last : ℕ) (events : List Event) → Below (eventRules good i last events)
-unfolding eventRules
-events-below good i last [] = tt
-events-below good i last (e ∷ rest) = (omega arith, (omega arith, events-below good _ _ rest))
-
--- 1 to 8
-plan-below : (bytes : List ℕ) → Below (planRules bytes)
-unfolding planRules
-plan-below bytes =
-    every-join (λ r. r .number < 12) (headRules bytes) (eachTask bytes ++ (priorityRules bytes ++ outputRules bytes)) (omega arith, (omega arith, (omega arith, tt)))
-    (every-join (λ r. r .number < 12) (eachTask bytes) (priorityRules bytes ++ outputRules bytes) (tasks-below _ 0 (taskBodies (wordsOf bytes)))
-    (every-join (λ r. r .number < 12) (priorityRules bytes) (outputRules bytes) (clash-below 7 0 [] (map priorityOf (planOf bytes .tasks)) (omega arith))
-    (clash-below 8 0 [] (map (λ k. k .outputs) (planOf bytes .tasks)) (omega arith))))
-
--- 1 to 11
-check-below : (planBytes eventBytes : List ℕ) → eventsVerdict planBytes eventBytes .number < 12
-check-below planBytes eventBytes =
-    first-below (checkRules planBytes eventBytes)
-    (every-join (λ r. r .number < 12) (planRules planBytes) (eventListRules planBytes eventBytes) (plan-below planBytes) (omega arith, events-below (contentRule (planOf planBytes)) 0 0 (eventsOf eventBytes)))
-
--- ---- a run gives 0 or 14
-room-not : (step : State → Ticked) (room n : ℕ) (s : State) → runRoom step room n s .verdict .number ≢ 12
-unfolding runRoom
-room-not step room zero s e = absurd (omega (arith, e))
-room-not step room (suc n) s e = go (leb (5 * length (step s .entries)) room) (room-not step (room - 5 * length (step s .entries)) n (step s .state)) e
-  where
-    r : Ran
-    r = runRoom step (room - 5 * length (step s .entries)) n (step s .state)
-
-    go : (b : Bool) → r .verdict .number ≢ 12 → cond b (onward (step s) r) (stopped (verdict 14 0) s) .verdict .number ≡ 12 → ⊥
-    go true d z = d z
-    go false d z = absurd (omega (arith, z))
+use Rattle.promises.proofs.Fitted.{tick-fitting}
+use Rattle.promises.proofs.Numbers.{check-below, room-number}
 
 module _ (planBytes eventBytes : List ℕ) (good : planVerdict planBytes .number ≡ 0) (s : State) (fit : Fits (planOf planBytes) (eventsOf eventBytes) s) where
   -- a state that fits passes the test
@@ -124,31 +64,36 @@ module _ (planBytes eventBytes : List ℕ) (good : planVerdict planBytes .number
   pub call-not : (asked room : ℕ) → call planBytes eventBytes s asked room .verdict .number ≢ 12
   call-not asked room = go (eqb (callVerdict planBytes eventBytes s asked .number) 0)
     where
+      neither : (n : ℕ) → (n ≡ 0) ⊎ (n ≡ 14) → n ≢ 12
+      neither n (inl e) z = absurd (omega arith)
+      neither n (inr e) z = absurd (omega arith)
+
       go : (b : Bool) → cond b (runRoom (tick (planOf planBytes) (eventsOf eventBytes)) room asked s) (stopped (callVerdict planBytes eventBytes s asked) s) .verdict .number ≢ 12
-      go true = room-not (tick (planOf planBytes) (eventsOf eventBytes)) room asked s
+      go true e = neither _ (room-number (tick (planOf planBytes) (eventsOf eventBytes)) room asked s) e
       go false = verdict-not asked
 
--- ---- never 12: after a fresh start that accepts the plan and any calls in turn
-module _ (planBytes eventBytes : List ℕ) (started : Started) (calls : List Called) (service : Service planBytes eventBytes started calls) where
-  -- the plan has number 0
-  good : planVerdict planBytes .number ≡ 0
-  good = started-good planBytes started (service .starts) (service .accepted)
+-- ---- after a fresh start that accepts the plan and any calls in turn
+-- a call keeps a state that fits
+pub called-fits : (planBytes eventBytes : List ℕ) → planVerdict planBytes .number ≡ 0 → (s : State) (c : Called) → CalledFrom planBytes eventBytes s c
+    → Fits (planOf planBytes) (eventsOf eventBytes) s → Fits (planOf planBytes) (eventsOf eventBytes) (c .outcome .state)
+called-fits planBytes eventBytes good s c runs fit =
+    calls-keep planBytes eventBytes (Fits (planOf planBytes) (eventsOf eventBytes)) (λ list s early fit. tick-fitting planBytes eventBytes good list s fit early)
+    s (c ∷ []) (runs, tt) fit
 
-  -- a fresh start fits
-  start-fits : Fits (planOf planBytes) (eventsOf eventBytes) (started .state)
-  start-fits =
-      subst (Fits (planOf planBytes) (eventsOf eventBytes)) (sym (started-fresh planBytes started (service .starts) (service .accepted)))
-      (fits-exactly planBytes good (eventsOf eventBytes) (fresh (planOf planBytes)) .0 (fresh-fits planBytes good (eventsOf eventBytes)))
+-- the state after the last call fits
+pub returned-fits : AReturnedStateFits
+returned-fits planBytes eventBytes started calls service =
+    let accepted = good planBytes eventBytes started calls service in
+    calls-keep planBytes eventBytes (Fits (planOf planBytes) (eventsOf eventBytes)) (λ list s early fit. tick-fitting planBytes eventBytes accepted list s fit early)
+    (started .state) calls (service .inTurn)
+    (subst (Fits (planOf planBytes) (eventsOf eventBytes)) (sym (started-fresh planBytes started (service .starts) (service .accepted)))
+    (fits-exactly planBytes accepted (eventsOf eventBytes) (fresh (planOf planBytes)) .0 (fresh-fits planBytes accepted (eventsOf eventBytes))))
 
-  -- the state after the last call fits
-  pub returned-fits : Fits (planOf planBytes) (eventsOf eventBytes) (lastState (started .state) calls)
-  returned-fits = calls-fit planBytes eventBytes good (started .state) calls (service .inTurn) start-fits
-
-  -- and a further call with it never answers 12
-  pub never-unfit : (c : Called) → CalledFrom planBytes eventBytes (lastState (started .state) calls) c → said (c .outcome .answer) .number ≢ 12
-  never-unfit c runs e =
-      call-not planBytes eventBytes good (lastState (started .state) calls) returned-fits (c .asked) (length (c .lent))
-      (sym (ap (λ (v : Verdict). v .number) (runs .answer)) ∙ e)
+-- and a further call with it never answers 12
+pub never-unfit : AReturnedStateIsNeverRefused
+never-unfit planBytes eventBytes started calls service c runs e =
+    call-not planBytes eventBytes (good planBytes eventBytes started calls service) (lastState (started .state) calls)
+    (returned-fits planBytes eventBytes started calls service) (c .asked) (length (c .lent)) (sym (ap (λ (v : Verdict). v .number) (runs .answer)) ∙ e)
 
 -- ---- runs compose, the other way round: a call that ran all its ticks can be made in two, with traces as long as its own
 module _ (planBytes eventBytes : List ℕ) (s : State) (first second one : Called) (asked : one .asked ≡ first .asked + second .asked)
@@ -200,6 +145,9 @@ module _ (planBytes eventBytes : List ℕ) (s : State) (first second one : Calle
       ∙ ap (λ (r : Ran). r .verdict) (call-all planBytes eventBytes (first .outcome .state) (second .asked) (length (second .lent))
       (fitting-zero planBytes eventBytes (plan-good planBytes eventBytes s (one .asked) zero-one) (first .outcome .state) fit (second .asked) (events-good planBytes eventBytes s (one .asked) zero-one) (omega arith)) (omega arith)))
 
-  -- both run all their ticks
-  pub runs-split : AllRun first × AllRun second
-  runs-split = (first-all, second-all)
+-- both run all their ticks
+pub runs-split : RunsSplit
+runs-split planBytes eventBytes s first second one asked runs all runs₁ long₁ runs₂ long₂ = (
+  first-all planBytes eventBytes s first second one asked runs all runs₁ long₁ runs₂ long₂,
+  second-all planBytes eventBytes s first second one asked runs all runs₁ long₁ runs₂ long₂,
+)

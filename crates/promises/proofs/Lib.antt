@@ -1,11 +1,5 @@
+pub mod Numbers
 pub mod Compose
-pub mod Tasks
-pub mod View
-pub mod Timed
-pub mod Bodies
-pub mod Kept
-pub mod Signals
-pub mod Written
 pub mod Fitted
 pub mod Honest
 pub mod Refused

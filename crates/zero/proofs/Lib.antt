@@ -10,4 +10,5 @@ pub mod Asked
 pub mod Keeps
 pub mod Accepted
 pub mod Theorems
+pub mod Sample
 pub mod Witness
