@@ -1,13 +1,12 @@
 -- What a body can do to its held outputs and its machine state: each action sets one output, or moves from one to another.
 use Prim.Native.Nat.{ℕ, _+_, _-_, _%_, _≤_, _<_}
-use mathlib.Core.Path.{_≡_, refl, _∙_}
+use mathlib.Core.Path.{_≡_, refl}
 use mathlib.Core.Logic.{_≢_}
 use mathlib.Core.Bool.{Bool, true, false, cond, not, _&&_}
-use mathlib.Core.List.{List, [], _∷_}
+use mathlib.Core.List.{List}
 use mathlib.Core.Option.{Option, none, some}
 use native.Mathlib.Omega.{arith}
-use lib.ListN.{length, getD, set, length-set}
-use lib.Seq.{getD-set-other}
+use lib.ListN.{length, getD, set}
 use lib.Dec.{eqb, leb, ltb}
 use borrow.Author.Tests.{eqb-true, eqb-false, eq-eqb, ne-eqb, leb-true}
 use Rattle.limits.specs.Limits.{topValue, maxState, maxPorts}
@@ -17,7 +16,7 @@ use Rattle.lists.proofs.Tests.{every-weaker}
 use Rattle.plan.specs.File.{Transition, Action, Task}
 use Rattle.plan.specs.Accepted.{ActionGood, Body}
 use Rattle.body.proofs.Laws.{turns-keep}
-use Rattle.body.specs.Body.{input, inTurn, mayFire, sooner, look, fires, after, isUpdated, wrapsAt, move, doAction, perform, runIf, supervise, control, body}
+use Rattle.body.specs.Body.{input, mayFire, sooner, look, fires, after, isUpdated, wrapsAt, move, doAction, perform, runIf, supervise, control, body}
 
 -- ---- the machine state: the transition that is taken is one of the task's
 sooner-one : (Q : Transition → Type 0) (x : Transition) (best : Option Transition) → Q x → If Q best → If Q (sooner x best)

@@ -3,28 +3,27 @@ use Prim.Native.Nat.{ℕ, zero, suc, _+_, _<_, _≤_}
 use mathlib.Core.Path.{_≡_, refl, sym, ap, ap₂, _∙_}
 use mathlib.Core.Bool.{Bool, true, false, cond, not, _&&_, _||_, or-false, and-comm}
 use mathlib.Core.Logic.{_⊎_, inl, inr}
-use mathlib.Core.List.{List, [], _∷_, _++_, map}
+use mathlib.Core.List.{List, [], _∷_}
 use native.Mathlib.Omega.{arith}
-use native.Mathlib.Nat.{zero-add, eq-or-lt-of-le, le-of-suc-le-suc}
+use native.Mathlib.Nat.{eq-or-lt-of-le, le-of-suc-le-suc}
 use lib.Dec.{eqb, ltb}
-use lib.ListN.{length, getD, List·getD-map}
 use borrow.Author.Tests.{ltb-true, eq-eqb, ne-eqb}
 use Rattle.lists.specs.Lists.{tab, absent}
-use Rattle.lists.proofs.Laws.{map-tab, getD-tab, and-true}
+use Rattle.lists.proofs.Laws.{map-tab, and-true}
 use Rattle.words.specs.Words.{wordsOf}
 use Rattle.marks.specs.Marks.{seen, mark}
 use Rattle.marks.proofs.Laws.{seen-mark, seen-none}
-use Rattle.answers.specs.Answers.{Rule, rule, firstBroken, orElse}
-use Rattle.plan.specs.File.{word, signalCount, taskCount, bodyOf, Task, taskOf, noTask, taskBodies, planOf, taskAt, allOutputs}
+use Rattle.answers.specs.Answers.{Rule, rule, firstBroken}
+use Rattle.plan.specs.File.{word, signalCount, taskCount, bodyOf, Task, taskOf, planOf, allOutputs}
 use Rattle.plan.specs.Rules.{planVerdict}
 use Rattle.plan.proofs.Laws.{signals-length, tasks-length}
 use Rattle.plan.proofs.Acceptance.{accepted-exactly}
 use Rattle.plan.proofs.Facts.{task-is}
 use Rattle.plan_check.specs.Clash.{markAll}
 use Rattle.plan_check.proofs.Written.{signals-small, written-marks}
-use Rattle.events.specs.Events.{Event, releaseEventRule, setEventRule, contentRule, instantRule, eventSizeRule, oneEvent, eventRules, eventsOf, eventListRules, eventsVerdict}
+use Rattle.events.specs.Events.{Event, releaseEventRule, setEventRule, eventSizeRule, eventRules, eventsOf, eventListRules, eventsVerdict}
 use Rattle.events.proofs.Laws.{plan-first}
-use Rattle.event_check.specs.Targets.{releasesBy, setsBy, contentBy, writtenBy, drivenBy, targetsBy, listBy}
+use Rattle.event_check.specs.Targets.{releasesBy, setsBy, writtenBy, drivenBy, targetsBy, listBy}
 
 -- the same rule 11, the same rules
 rules-same : (g h : Event → Bool) → ((e : Event) → g e ≡ h e) → (i last : ℕ) (es : List Event) → eventRules g i last es ≡ eventRules h i last es

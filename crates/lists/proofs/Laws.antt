@@ -1,14 +1,13 @@
 -- Laws of lists read off by a rule, and of tests joined by 'and'.
 use Prim.Native.Nat.{ℕ, zero, suc, _+_, _-_, _<_, _≤_, min}
 use mathlib.Core.Path.{_≡_, refl, ap, sym, _∙_}
-use mathlib.Core.Bool.{Bool, true, false, cond, not, _&&_, false≢true}
+use mathlib.Core.Bool.{Bool, true, false, _&&_, false≢true}
 use mathlib.Core.List.{List, [], _∷_, _++_, map, append-assoc}
 use native.Mathlib.Omega.{arith}
 use native.Mathlib.Numerals.{add-one}
 use native.Mathlib.Nat.{zero-add, sub-zero, zero-sub, suc-sub-suc}
 use lib.ListN.{length, getD, set, take, drop, replicate, length-replicate, length-set, drop-of-length-le}
 use lib.Seq.{sets, sets-eq, set-at, drop-cons, take-append-add, take-nil, drop-nil, getD-set-other}
-use lib.Dec.{eqb}
 use Rattle.lists.specs.Lists.{tab, all, PaddedFrom}
 
 -- ---- counts: k done of n

@@ -1,6 +1,6 @@
 -- A task in ERROR is in ERROR after every further tick, and so after any further calls.
-use Prim.Native.Nat.{ℕ, _≤_, _<_}
-use mathlib.Core.Path.{_≡_, refl, sym, ap, subst⁻¹, _∙_}
+use Prim.Native.Nat.{ℕ, _<_}
+use mathlib.Core.Path.{_≡_, refl, sym, ap, _∙_}
 use mathlib.Core.Logic.{_⊎_, inl, inr}
 use mathlib.Core.Bool.{Bool, true, false}
 use mathlib.Core.List.{List}
@@ -13,7 +13,6 @@ use Rattle.plan.proofs.Tasks.{order-numbers}
 use Rattle.events.specs.Events.{Event, eventsOf}
 use Rattle.state.specs.State.{stateAt, nowhere}
 use Rattle.state.specs.declared.State.{State}
-use Rattle.state.specs.declared.Status.the-variants.{READY, ERROR}
 use Rattle.state.specs.declared.TaskState.{TaskState}
 use Rattle.state.proofs.Statuses.{ready-error, active-error}
 use Rattle.tick.specs.Turns.{Turn, deadlineTurn, waits, isActive, runTurn}

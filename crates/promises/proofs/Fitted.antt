@@ -27,7 +27,7 @@ use Rattle.state.specs.Fitting.{SizedTask, AllZero, Fits}
 use Rattle.state.specs.declared.TaskState.{TaskState}
 use Rattle.state.specs.declared.State.{State}
 use Rattle.tick.specs.Turns.{deadlineTurn, waits, isActive, runTurn}
-use Rattle.tick.specs.Tick.{Moment, eventsAt, begins, deadlines, afterReleases, tick}
+use Rattle.tick.specs.Tick.{eventsAt, begins, deadlines, afterReleases, tick}
 use Rattle.tick.proofs.Timed.{Flight, StandsAt, deadline-stands, release-stands, run-stands}
 use Rattle.tick.proofs.Ports.{PortsFit, deadline-ports, release-ports, run-ports, fits-stands, fits-ports, both-fit, ports-sized}
 use Rattle.tick.proofs.Writes.{every-now, set-keeps, writes-keep}

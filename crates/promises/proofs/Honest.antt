@@ -70,14 +70,15 @@ module _ (planBytes eventBytes : List ℕ) (good : planVerdict planBytes .number
 
       go : (b : Bool) → cond b (runRoom (tick (planOf planBytes) (eventsOf eventBytes)) room asked s) (stopped (callVerdict planBytes eventBytes s asked) s) .verdict .number ≢ 12
       go true e = neither _ (room-number (tick (planOf planBytes) (eventsOf eventBytes)) room asked s) e
-      go false = verdict-not asked
+      go false e = verdict-not asked e
 
 -- ---- after a fresh start that accepts the plan and any calls in turn
 -- a call keeps a state that fits
 pub called-fits : (planBytes eventBytes : List ℕ) → planVerdict planBytes .number ≡ 0 → (s : State) (c : Called) → CalledFrom planBytes eventBytes s c
     → Fits (planOf planBytes) (eventsOf eventBytes) s → Fits (planOf planBytes) (eventsOf eventBytes) (c .outcome .state)
-called-fits planBytes eventBytes good s c runs fit =
-    calls-keep planBytes eventBytes (Fits (planOf planBytes) (eventsOf eventBytes)) (λ list s early fit. tick-fitting planBytes eventBytes good list s fit early)
+unfolding lastState
+called-fits planBytes eventBytes accepted s c runs fit =
+    calls-keep planBytes eventBytes (Fits (planOf planBytes) (eventsOf eventBytes)) (λ list s early fit. tick-fitting planBytes eventBytes accepted list s fit early)
     s (c ∷ []) (runs, tt) fit
 
 -- the state after the last call fits

@@ -1,7 +1,7 @@
 -- Condition 1: every number is one of the list, a refusal leaves everything as it was, and a full trace keeps the ticks run.
 use Prim.Native.Nat.{ℕ, zero, suc, _+_, _-_, _*_, _≤_, _<_}
 use mathlib.Core.Path.{_≡_, refl, sym, ap, subst, _∙_}
-use mathlib.Core.Logic.{_≢_, _⊎_, inl, inr}
+use mathlib.Core.Logic.{_⊎_, inl, inr}
 use mathlib.Core.Bool.{Bool, true, false, cond}
 use mathlib.Core.List.{List, [], _∷_, _++_, map}
 use native.Mathlib.Omega.{arith}
@@ -11,7 +11,7 @@ use borrow.Author.Tests.{ne-eqb, leb-true, leb-false}
 use Rattle.words.specs.Words.{wordsOf}
 use Rattle.lists.specs.Lists.{Every, Between}
 use Rattle.lists.proofs.Tests.{every-join, every-weaker}
-use Rattle.answers.specs.Answers.{Verdict, verdict, Rule, rule, firstBroken}
+use Rattle.answers.specs.Answers.{Verdict, verdict, Rule, firstBroken}
 use Rattle.plan.specs.File.{planOf, taskBodies}
 use Rattle.plan.specs.Rules.{planVerdict, taskRules, afterAll, clashRules, priorityOf, headRules, eachTask, priorityRules, outputRules, planRules}
 use Rattle.events.specs.Events.{Event, eventsOf, contentRule, eventRules, eventListRules, checkRules, eventsVerdict}

@@ -2,7 +2,7 @@
 -- and a case for each premise.
 use Prim.Native.Nat.{ℕ, _+_, _*_, _<_, _≤_}
 use mathlib.Core.Path.{_≡_}
-use mathlib.Core.Logic.{_≢_, _⊎_}
+use mathlib.Core.Logic.{_≢_}
 use mathlib.Core.List.{List, [], _∷_}
 use lib.ListN.{length}
 use Rattle.limits.specs.Limits.{maxTime}
@@ -19,7 +19,7 @@ use Rattle.tick.specs.Tick.{tick}
 use Rattle.kernel.specs.Call.{Starts, Runs}
 use Rattle.kernel.specs.declared.Started.{Started}
 use Rattle.kernel.specs.declared.Outcome.{Outcome}
-use Rattle.zero.specs.Zero.{kernelRun, Called, InTurn, ticksOf, allRecords, lastState, Service}
+use Rattle.zero.specs.Zero.{Called, InTurn, ticksOf, allRecords, lastState, Service}
 use Rattle.promises.specs.Promises.{Untouched, StopsBefore, CalledFrom, AllRun, Composed, AtOnce, outputOf, totalOf, OnlyMoves, InError}
 
 -- ---- condition 1: every input is answered from the list, and a refusal leaves everything as it was

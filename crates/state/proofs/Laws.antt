@@ -3,7 +3,7 @@
 use Prim.Native.Nat.{ℕ, zero, suc, _+_, _-_, _<_, _≤_}
 use mathlib.Core.Path.{_≡_, refl, sym, ap, subst, _∙_}
 use mathlib.Core.Bool.{Bool, true, false, cond, _&&_}
-use mathlib.Core.List.{List, [], _∷_, map}
+use mathlib.Core.List.{List, map}
 use mathlib.Core.Logic.{_↔_, _≢_, _⊎_, inl, inr}
 use native.Mathlib.Omega.{arith}
 use native.Mathlib.Nat.{zero-add, eq-or-lt-of-le}

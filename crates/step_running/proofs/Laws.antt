@@ -1,14 +1,12 @@
 -- Laws of the ports of a task, cut to those that there are, and of what its last tick comes to.
-use Prim.Native.Nat.{ℕ, _+_, _*_, _-_, _≤_, min}
-use mathlib.Core.Path.{_≡_, refl, sym, ap, _∙_, subst}
-use mathlib.Core.Bool.{Bool, true, false}
+use Prim.Native.Nat.{ℕ, _+_, _*_, _-_, min}
+use mathlib.Core.Path.{_≡_, sym, ap, _∙_, subst}
 use mathlib.Core.List.{List, _++_, append-assoc}
 use native.Mathlib.Omega.{arith}
 use native.Mathlib.Nat.{add-zero}
-use lib.ListN.{length, set, take, drop, length-drop, drop-of-length-le}
-use lib.Seq.{take-all, take-length, drop-length, drop-drop}
-use lib.Dec.{ltb}
-use borrow.Author.Tests.{ltb-true, ltb-false, eq-eqb}
+use lib.ListN.{length, set, take, drop, length-drop}
+use lib.Seq.{drop-drop}
+use borrow.Author.Tests.{eq-eqb}
 use Rattle.lists.proofs.Laws.{cut-take, cut-drop}
 use Rattle.words.specs.Words.{wordsOf}
 use Rattle.words.proofs.Laws.{part-words}

@@ -1,5 +1,5 @@
 -- A task that is ACTIVE after its turns: it was so before, and nothing of it changed but its remaining ticks, or it was released now.
-use Prim.Native.Nat.{ℕ, _+_, _-_}
+use Prim.Native.Nat.{ℕ, _+_}
 use mathlib.Core.Path.{_≡_, refl, sym, _∙_, ap}
 use mathlib.Core.Logic.{_⊎_, inl, inr}
 use mathlib.Core.List.{List}

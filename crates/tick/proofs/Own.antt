@@ -11,7 +11,7 @@ use lib.Dec.{eqb}
 use borrow.Author.Tests.{eq-eqb, ne-eqb}
 use Rattle.lists.specs.Lists.{Every, Pairwise, In}
 use Rattle.lists.proofs.Tests.{in-every}
-use Rattle.plan.specs.File.{Task, Plan, taskAt}
+use Rattle.plan.specs.File.{Plan, taskAt}
 use Rattle.plan.specs.Order.{numbers, order}
 use Rattle.plan.proofs.Order.{Perm, order-in}
 use Rattle.events.specs.Events.{Event}

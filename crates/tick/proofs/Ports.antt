@@ -17,7 +17,7 @@ use Rattle.state.specs.State.{valueAt}
 use Rattle.state.specs.Fitting.{SizedTask, TaskFits}
 use Rattle.state.specs.declared.TaskState.{TaskState}
 use Rattle.state.proofs.Zeros.{zeros-iff, zeros-pad}
-use Rattle.tick.specs.Turns.{finish, deadlineTurn, release, waits, releaseTurn, runTurn}
+use Rattle.tick.specs.Turns.{finish, deadlineTurn, release, releaseTurn, runTurn}
 use Rattle.tick.proofs.Values.{SameValues, deadline-values, release-values, run-values}
 use Rattle.tick.proofs.Timed.{Flight, StandsAt, stands, timed}
 

@@ -1,14 +1,11 @@
 -- Which records a turn can have, and that what holds of every record of a turn holds of every record of a step, and of a tick.
-use Prim.Native.Nat.{ℕ, zero, suc, _-_}
+use Prim.Native.Nat.{ℕ, _-_}
 use mathlib.Core.Path.{_≡_, refl, sym}
 use mathlib.Core.Logic.{_≢_}
-use mathlib.Core.Bool.{Bool, false, false≢true}
 use mathlib.Core.List.{List, [], _∷_}
 use mathlib.Core.Option.{Option, none, some}
-use native.Mathlib.Omega.{arith}
-use lib.ListN.{replicate}
 use Rattle.lists.specs.Lists.{Every}
-use Rattle.lists.proofs.Tests.{every-append, every-join, every-weaker, every-replicate}
+use Rattle.lists.proofs.Tests.{every-append, every-join, every-replicate}
 use Rattle.plan.specs.File.{Task, Plan, taskAt}
 use Rattle.plan.specs.Order.{order}
 use Rattle.events.specs.Events.{Event}
@@ -19,9 +16,9 @@ use Rattle.state.specs.State.{stateAt}
 use Rattle.state.specs.declared.Status.the-variants.{ACTIVE}
 use Rattle.state.specs.declared.TaskState.{TaskState}
 use Rattle.state.specs.declared.State.{State}
-use Rattle.tick.specs.Turns.{Write, Turn, finish, writesOf, deadlineTurn, waits, releaseTurn, isActive, runTurn}
+use Rattle.tick.specs.Turns.{Write, Turn, finish, writesOf, deadlineTurn, waits, releaseTurn, runTurn}
 use Rattle.tick.specs.Tick.{Moment, Act, visit, each, eventsAt, begins, deadlines, running, visitIf, afterReleases, tick}
-use Rattle.tick.proofs.Cases.{is-active, Deadline, rests, misses, writes, deadline-is, callsNow, Release, starts, overruns, stays, release-is, Running, goes-on, finishes, writes-at-once, run-is}
+use Rattle.tick.proofs.Cases.{Deadline, rests, misses, writes, deadline-is, callsNow, Release, starts, overruns, stays, release-is, Running, goes-on, finishes, writes-at-once, run-is}
 use Rattle.tick.proofs.Values.{writeEntries}
 
 -- ---- one turn: P is what is asked of a record

@@ -20,7 +20,7 @@ use Rattle.state.specs.declared.Status.the-variants.{READY, FINISHED}
 use Rattle.state.specs.declared.TaskState.{TaskState}
 use Rattle.state.proofs.Statuses.{ready-finished}
 use Rattle.tick.specs.Turns.{Turn, quiet, writesOf, writeOut, deadlineTurn, releaseTurn, runTurn}
-use Rattle.tick.specs.Tick.{Moment, Act, writeAll, visit, each, eventsAt, releases}
+use Rattle.tick.specs.Tick.{Moment, writeAll, visit, each, eventsAt, releases}
 use Rattle.tick.proofs.Cases.{deadline-ready}
 use Rattle.tick.proofs.Values.{NothingWritten, AllWritten, deadline-writing, release-writing, run-writing}
 use Rattle.tick.proofs.Writes.{writes-none, written-length, unwritten, written}

@@ -1,11 +1,10 @@
 -- What a turn of each step leaves of a task's machine state, latched inputs and held outputs, and what it writes.
-use Prim.Native.Nat.{ℕ, zero, suc, _+_, _-_}
+use Prim.Native.Nat.{ℕ, _+_, _-_}
 use mathlib.Core.Path.{_≡_, refl}
 use mathlib.Core.Logic.{_≢_, _⊎_, inl, inr}
 use mathlib.Core.Bool.{true, not}
 use mathlib.Core.List.{List, [], map}
 use native.Mathlib.Omega.{arith}
-use lib.ListN.{replicate}
 use lib.Dec.{eqb}
 use Rattle.lists.specs.Lists.{Every}
 use Rattle.lists.proofs.Laws.{and-left}

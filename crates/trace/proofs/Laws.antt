@@ -1,13 +1,12 @@
 -- Laws of a lent trace: records one after the other are the lines of 01, and words beyond them stay.
-use Prim.Native.Nat.{ℕ, zero, suc, _+_, _*_, _-_, _<_, _≤_}
-use mathlib.Core.Path.{_≡_, refl, ap, sym, _∙_, subst}
+use Prim.Native.Nat.{ℕ, suc, _+_, _*_, _≤_}
+use mathlib.Core.Path.{_≡_, refl, ap, sym, _∙_}
 use mathlib.Core.List.{List, [], _∷_, _++_, append-assoc, append-nil}
 use mathlib.Core.Bool.{Bool, true, false, cond}
 use native.Mathlib.Omega.{arith}
-use native.Mathlib.Nat.{add-assoc, add-zero}
-use lib.ListN.{length, getD, set, take, drop, length-set, take-append-drop, length-append, length-take, length-drop}
-use lib.Seq.{sets, sets-eq, take-append-le, take-at, drop-at, drop-drop, length-take-le}
-use native.Mathlib.Numerals.{add-one}
+use native.Mathlib.Nat.{add-zero}
+use lib.ListN.{length, take, drop, length-set, take-append-drop, length-append}
+use lib.Seq.{sets-eq, take-at, drop-at, drop-drop, length-take-le}
 use lib.Dec.{leb}
 use borrow.Author.Tests.{le-leb}
 use Rattle.trace.specs.Trace.{store, putAt, over, lines, traceAfter, recordsIn}

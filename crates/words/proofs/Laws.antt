@@ -3,8 +3,7 @@ use Prim.Native.Nat.{ℕ, zero, suc, _+_, _*_, _-_, _/_, _<_, _≤_, min}
 use mathlib.Core.Path.{_≡_, refl, sym, ap, _∙_}
 use mathlib.Core.List.{List, [], _∷_}
 use native.Mathlib.Omega.{arith}
-use lib.ListN.{length, getD, take, drop, length-drop, List·getD-eq-default}
-use lib.Seq.{take-nil, drop-nil}
+use lib.ListN.{length, take, drop, length-drop, List·getD-eq-default}
 use Rattle.lists.proofs.Laws.{cut-take, cut-drop}
 use Rattle.words.specs.Words.{joined, wordsOf, wordAt, fourAt, partOf}
 

@@ -5,12 +5,8 @@ use native.Mathlib.Nat.{zero-add}
 use mathlib.Core.Path.{_≡_, sym, ap, _∙_}
 use mathlib.Core.Logic.{_≢_}
 use mathlib.Core.List.{List}
-use Rattle.limits.specs.Limits.{maxPriority}
-use Rattle.lists.specs.Lists.{Between, Pairwise}
-use Rattle.plan.specs.File.{Plan, planOf, taskAt, allOutputs}
+use Rattle.plan.specs.File.{Plan, planOf}
 use Rattle.plan.specs.Rules.{planVerdict}
-use Rattle.plan.specs.Order.{numbers, order}
-use Rattle.plan.specs.Accepted.{Timing}
 use Rattle.plan.proofs.Order.{perm-sym, perm-every, each-task}
 use Rattle.plan.proofs.Tasks.{order-numbers}
 use Rattle.events.specs.Events.{eventsOf}

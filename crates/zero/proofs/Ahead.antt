@@ -3,7 +3,7 @@
 use Prim.Native.Nat.{ℕ, zero, suc, _+_, _-_}
 use mathlib.Core.Path.{_≡_, refl, sym, _∙_, ap, subst⁻¹}
 use mathlib.Core.Logic.{_≢_, inl, inr}
-use mathlib.Core.Bool.{Bool, true, false}
+use mathlib.Core.Bool.{true, false}
 use mathlib.Core.List.{List, [], _∷_, map, append-nil}
 use mathlib.Core.Option.{Option, none, some}
 use lib.ListN.{getD, set}
@@ -25,7 +25,8 @@ use Rattle.state.specs.declared.State.{State}
 use Rattle.state.proofs.Statuses.{ready-active, ready-finished, active-finished, active-error}
 use Rattle.tick.specs.Turns.{Turn, quiet, finish, writeOut, atDeadline, deadlineTurn, waits, releaseTurn, isActive, loses, runTurn}
 use Rattle.tick.specs.Tick.{Moment, Act, writeAll, visit, each, eventsAt, begins, deadlines, releases, afterReleases, running, visitIf, runs, Ticked, ends, tick, zeroTick}
-use Rattle.tick.proofs.Cases.{active-is, Deadline, rests, misses, writes, deadline-is, deadline-ready, deadline-error, deadline-later, deadline-written, callsNow, startTurn, Release, starts, overruns, stays, release-is, release-asked, release-stays, Running, goes-on, finishes, writes-at-once, run-is}
+use Rattle.tick.proofs.Cases.{active-is, Deadline, rests, misses, writes, deadline-is, deadline-ready, deadline-error, deadline-later, deadline-written}
+use Rattle.tick.proofs.Cases.{callsNow, startTurn, Release, starts, overruns, stays, release-is, release-asked, release-stays, Running, goes-on, finishes, writes-at-once, run-is}
 use Rattle.tick.proofs.Records.{each-earlier, if-earlier}
 use Rattle.tick.proofs.Urgent.{urgent-is}
 use Rattle.zero.specs.Zero.{NoMiss, ticks}

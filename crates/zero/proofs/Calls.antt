@@ -1,5 +1,5 @@
 -- What the entries give is a run of `tick`: as many ticks as they say, with these records, from the fresh state on.
-use Prim.Native.Nat.{ℕ, zero, suc, _+_, _-_, _*_}
+use Prim.Native.Nat.{ℕ, zero, suc, _-_, _*_}
 use mathlib.Core.Path.{_≡_, refl, sym, _∙_, ap, ap₂}
 use mathlib.Core.Bool.{Bool, true, false, cond}
 use mathlib.Core.List.{List, [], _∷_, _++_}
@@ -13,7 +13,6 @@ use Rattle.plan.specs.Rules.{planVerdict}
 use Rattle.events.specs.Events.{eventsOf}
 use Rattle.trace.specs.Trace.{traceAfter, recordsIn}
 use Rattle.trace.proofs.Laws.{records-laid}
-use Rattle.trace.specs.declared.Entry.{Entry}
 use Rattle.state.specs.State.{fresh, zeroState}
 use Rattle.state.specs.declared.State.{State}
 use Rattle.tick.specs.Tick.{Ticked, tick}

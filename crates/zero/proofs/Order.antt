@@ -1,12 +1,11 @@
 -- The order of priority changes no signal, no task state and no task's own records.
 use Prim.Native.Nat.{ℕ}
-use mathlib.Core.Path.{_≡_, refl, sym, _∙_, ap}
+use mathlib.Core.Path.{_≡_, refl, sym, _∙_}
 use mathlib.Core.Logic.{_≢_}
 use mathlib.Core.List.{List, [], _∷_, _++_}
 use native.Mathlib.Decide.{ℕ-discrete}
-use lib.ListN.{getD, set}
+use lib.ListN.{getD}
 use lib.Seq.{set-comm, getD-set-other}
-use Rattle.lists.specs.Lists.{Every}
 use Rattle.plan.specs.File.{Plan, taskAt}
 use Rattle.plan.proofs.Order.{Perm, pnil, pcons, pswap, ptrans}
 use Rattle.trace.specs.Trace.{own}

@@ -9,7 +9,7 @@ use lib.ListN.{length, List·getD-eq-default}
 use lib.Dec.{ltb}
 use borrow.Author.Tests.{ltb-true, ltb-false}
 use Rattle.limits.specs.Limits.{maxPorts, maxPriority, maxTasks, maxSignals}
-use Rattle.lists.specs.Lists.{tab, Pairwise}
+use Rattle.lists.specs.Lists.{Pairwise}
 use Rattle.lists.proofs.Laws.{tab-same}
 use Rattle.plan.specs.File.{Task, Plan, noTask, taskAt, allOutputs}
 use Rattle.plan.specs.Order.{numbers, withPriority, inOrder, order}

@@ -2,7 +2,6 @@
 use Prim.Native.Nat.{ℕ, _≤_}
 use mathlib.Core.Path.{_≡_, sym, ap, _∙_, subst}
 use mathlib.Core.List.{List}
-use Rattle.answers.specs.Answers.{said}
 use Rattle.plan.specs.File.{planOf}
 use Rattle.plan.specs.Rules.{planVerdict}
 use Rattle.plan.proofs.Tasks.{order-numbers, outputs-once}

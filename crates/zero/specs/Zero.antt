@@ -2,10 +2,8 @@
 use Prim.Native.Nat.{ℕ, zero, suc, _+_, _<_, _≤_}
 use mathlib.Core.Path.{_≡_}
 use mathlib.Core.Logic.{_≢_}
-use mathlib.Core.Bool.{cond}
 use mathlib.Core.List.{List, [], _∷_, _++_}
 use lib.ListN.{length}
-use lib.Dec.{ltb, eqb}
 use Rattle.lists.specs.Lists.{Every}
 use Rattle.answers.specs.Answers.{said}
 use Rattle.plan.specs.File.{Task, Plan, planOf, taskAt}
