@@ -1,6 +1,6 @@
 -- What a call that no rule refuses gives: the plan and the events are accepted, the state fits, and there is time.
 use Prim.Native.Nat.{ℕ, _+_, _*_, _<_, _≤_, _^_}
-use mathlib.Core.Path.{_≡_, refl, sym, ap, _∙_}
+use mathlib.Core.Path.{_≡_, refl, sym, ap, subst⁻¹, _∙_}
 use mathlib.Core.Logic.{_≢_}
 use mathlib.Core.Bool.{Bool, true, false, cond}
 use mathlib.Core.List.{List}
@@ -18,7 +18,7 @@ use Rattle.plan.specs.Order.{order}
 use Rattle.plan.specs.Rules.{planVerdict}
 use Rattle.plan.proofs.Acceptance as plans
 use Rattle.plan.proofs.Facts.{accepted, task-shape}
-use Rattle.plan_schedule.specs.Schedule.{scheduleOf}
+use Rattle.plan_schedule.specs.Schedule.{Schedule, scheduleOf}
 use Rattle.plan_schedule.proofs.Accepted.{taskIn, tasks-few, accepted-distinct, accepted-length, place-task, schedule-count, schedule-says}
 use Rattle.events.specs.Events.{eventsOf, passed, eventCount, eventsVerdict}
 use Rattle.events.proofs.Acceptance as lists
@@ -105,6 +105,17 @@ module _ (planBytes eventBytes : List ℕ) (s : State) (asked : ℕ) (good : cal
       let size = rw words at (words-length (bodyPart planBytes i)) in
       let formula = task-shape planBytes (accepted planBytes plan-good) i (place-task planBytes plan-good j below) .formula in
       rw (schedule-says planBytes plan-good j below .task, words) (omega arith)
+
+  -- the same of rows and a count that are the plan's schedule, as the code has them
+  module _ (rows : List ℕ) (count : ℕ) (schedule : _≡_ {A = Schedule} (record { rows = rows; count = count }) (scheduleOf planBytes)) where
+    pub may-run-of : Asked count (eventCount eventBytes) asked (record { tick = s .tick; place = s .place; at = 0 })
+    may-run-of = subst⁻¹ (λ (x : Schedule). Asked (x .count) (eventCount eventBytes) asked (record { tick = s .tick; place = s .place; at = 0 })) schedule may-run
+
+    pub distinct-of : Distinct rows count
+    distinct-of = subst⁻¹ (λ (x : Schedule). Distinct (x .rows) (x .count)) schedule rows-distinct
+
+    pub bodies-of : WholeBodies planBytes rows count
+    bodies-of = subst⁻¹ (λ (x : Schedule). WholeBodies planBytes (x .rows) (x .count)) schedule bodies-whole
 
   -- and what it comes to is the call
   pub call-is : (room : ℕ) → call planBytes eventBytes s asked room ≡ ranOf (s .tick) (runFlat (known planBytes eventBytes plan-good events-good) room asked (s .tick) (s .place) (apart s))

@@ -1,40 +1,61 @@
-use mathlib.Core.Path.{_≡_, refl, sym, ap, _∙_}
-use mathlib.Core.Bool.{true, false, cond}
-use lib.Dec.{eqb}
+use mathlib.Core.Path.{_≡_, sym, _∙_}
 use borrow.Author.Needs.{needs}
-use borrow.Author.Tests.{not-true, not-false, eqb-true}
-use Rattle.plan_check.proofs.Laws.{asked}
-use Rattle.kernel.proofs.Verdict.{check-decides, state-decides}
+use borrow.Author.Tests.{eqb-true}
+use Rattle.kernel.proofs.Verdict.{refused-by, accepted-by, check-decides, unfit-is-12, late-is-13, all-hold-is-0}
 use Rattle.kernel.proofs.call_answer.Statement.{statement}
 use Rattle.kernel.proofs.call_answer.Tie as tie
 
+-- The points that the needs name: `checked` is after the check of plan and events, `asked` after the question whether its answer
+-- accepts, `fitted` after the state is held to them, `counted` after the ticks are. `given` is what the function is called with.
+
+-- the plan or the events are refused
 returns : tie.Need-returns
 returns c =
-    c .before .before .check .ensures
-    ∙ sym (check-decides (c .before .before .before .before .before .args .plan .now) (c .before .before .before .before .before .args .events .now) (c .before .before .before .before .before .args .state) (c .before .before .before .before .before .args .asked)
-    (asked false (c .before .accepted .result) _ _ (c .before .accepted .ensures) (not-true (c .before .accepted .result) (c .if1 .taken)) (c .before .before .check .ensures)))
+    let asked = c .before in
+    let checked = asked .before in
+    let given = checked .before .before .before .args in
+    let refused = refused-by _ _ _ (asked .accepted .ensures) (c .if1 .taken) (checked .check .ensures) in
+    checked .check .ensures ∙ sym (check-decides (given .plan .now) (given .events .now) (given .state) (given .asked) refused)
 
 fits-requires : tie.Need-fits-requires
 fits-requires c κs =
-    eqb-true _ 0 (asked true (c .before .accepted .result) _ _ (c .before .accepted .ensures) (not-false (c .before .accepted .result) (c .if1 .left)) (c .before .before .check .ensures))
+    let asked = c .before in
+    let checked = asked .before in
+    eqb-true _ 0 (accepted-by _ _ _ (asked .accepted .ensures) (c .if1 .left) (checked .check .ensures))
 
+-- 12
 returns-2 : tie.Need-returns-2
 returns-2 c =
-    sym (state-decides (c .before .before .before .before .before .before .before .args .plan .now) (c .before .before .before .before .before .before .before .args .events .now) (c .before .before .before .before .before .before .before .args .state) (c .before .before .before .before .before .before .before .args .asked)
-    (asked true (c .before .before .before .accepted .result) _ _ (c .before .before .before .accepted .ensures) (not-false (c .before .before .before .accepted .result) (c .before .before .if1 .left)) (c .before .before .before .before .check .ensures))
-    ∙ rw (← c .before .fits2 .ensures, not-true (c .before .fits2 .result) (c .if2 .taken)))
+    let fitted = c .before in
+    let asked = fitted .before .before in
+    let checked = asked .before in
+    let given = checked .before .before .before .args in
+    let accepted = accepted-by _ _ _ (asked .accepted .ensures) (fitted .before .if1 .left) (checked .check .ensures) in
+    sym (unfit-is-12 (given .plan .now) (given .events .now) (given .state) (given .asked) accepted _ (fitted .fits2 .ensures) (c .if2 .taken))
 
+-- 13
 returns-3 : tie.Need-returns-3
 returns-3 c =
-    sym (state-decides (c .before .before .before .before .before .before .before .before .before .args .plan .now) (c .before .before .before .before .before .before .before .before .before .args .events .now) (c .before .before .before .before .before .before .before .before .before .args .state) (c .before .before .before .before .before .before .before .before .before .args .asked)
-    (asked true (c .before .before .before .before .before .accepted .result) _ _ (c .before .before .before .before .before .accepted .ensures) (not-false (c .before .before .before .before .before .accepted .result) (c .before .before .before .before .if1 .left)) (c .before .before .before .before .before .before .check .ensures))
-    ∙ rw (← c .before .before .before .fits2 .ensures, not-false (c .before .before .before .fits2 .result) (c .before .before .if2 .left), ← c .before .ticks-hold .ensures, not-true (c .before .ticks-hold .result) (c .if3 .taken)))
+    let counted = c .before in
+    let fitted = counted .before .before in
+    let asked = fitted .before .before in
+    let checked = asked .before in
+    let given = checked .before .before .before .args in
+    let accepted = accepted-by _ _ _ (asked .accepted .ensures) (fitted .before .if1 .left) (checked .check .ensures) in
+    sym (late-is-13 (given .plan .now) (given .events .now) (given .state) (given .asked) accepted _ (fitted .fits2 .ensures) (counted .before .if2 .left)
+    _ (counted .ticks-hold .ensures) (c .if3 .taken))
 
+-- 0
 returns-4 : tie.Need-returns-4
 returns-4 c =
-    sym (state-decides (c .before .before .before .before .before .before .before .before .before .args .plan .now) (c .before .before .before .before .before .before .before .before .before .args .events .now) (c .before .before .before .before .before .before .before .before .before .args .state) (c .before .before .before .before .before .before .before .before .before .args .asked)
-    (asked true (c .before .before .before .before .before .accepted .result) _ _ (c .before .before .before .before .before .accepted .ensures) (not-false (c .before .before .before .before .before .accepted .result) (c .before .before .before .before .if1 .left)) (c .before .before .before .before .before .before .check .ensures))
-    ∙ rw (← c .before .before .before .fits2 .ensures, not-false (c .before .before .before .fits2 .result) (c .before .before .if2 .left), ← c .before .ticks-hold .ensures, not-false (c .before .ticks-hold .result) (c .if3 .left)))
+    let counted = c .before in
+    let fitted = counted .before .before in
+    let asked = fitted .before .before in
+    let checked = asked .before in
+    let given = checked .before .before .before .args in
+    let accepted = accepted-by _ _ _ (asked .accepted .ensures) (fitted .before .if1 .left) (checked .check .ensures) in
+    sym (all-hold-is-0 (given .plan .now) (given .events .now) (given .state) (given .asked) accepted _ (fitted .fits2 .ensures) (counted .before .if2 .left)
+    _ (counted .ticks-hold .ensures) (c .if3 .left))
 
 pub call-answer-spec : {M : Type 1} → statement M
 call-answer-spec =

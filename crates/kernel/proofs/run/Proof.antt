@@ -1,21 +1,32 @@
-use mathlib.Core.Path.{_≡_, refl, _∙_}
-use mathlib.Core.Bool.{true, false}
+use mathlib.Core.Path.{_≡_}
 use borrow.Author.Needs.{needs}
-use borrow.Author.Tests.{not-true, not-false, eqb-true}
+use borrow.Author.Tests.{eqb-true}
 use Rattle.trace.specs.Trace.{lines}
-use Rattle.plan_check.proofs.Laws.{asked}
+use Rattle.kernel.specs.Call.{callVerdict}
+use Rattle.kernel.proofs.Verdict.{refused-by, accepted-by}
 use Rattle.kernel.proofs.run.Statement.{statement}
 use Rattle.kernel.proofs.run.Tie as tie
+
+-- The points that the needs name: `answered` is after the call's number is found, `asked` after the question whether it accepts.
+-- `given` is what the function is called with.
 
 returns : tie.Need-returns
 unfolding lines
 returns c =
-    let refused = asked false (c .before .accepted .result) _ _ (c .before .accepted .ensures) (not-true (c .before .accepted .result) (c .if1 .taken)) (c .before .before .call-answer .ensures) in
-    record { answer = rw refused (c .before .before .call-answer .ensures); ticks = rw refused; records = rw refused; state = rw refused; trace = rw refused }
+    let asked = c .before in
+    let answered = asked .before in
+    let given = answered .before .before .before .before .args in
+    let call = callVerdict (given .plan .now) (given .events .now) (given .state) (given .asked) in
+    let refused = refused-by _ _ call (asked .accepted .ensures) (c .if1 .taken) (answered .call-answer .ensures) in
+    record { answer = rw refused (answered .call-answer .ensures); ticks = rw refused; records = rw refused; state = rw refused; trace = rw refused }
 
 run-accepted-requires : tie.Need-run-accepted-requires
 run-accepted-requires c κs =
-    eqb-true _ 0 (asked true (c .before .before .accepted .result) _ _ (c .before .before .accepted .ensures) (not-false (c .before .before .accepted .result) (c .before .if1 .left)) (c .before .before .before .call-answer .ensures))
+    let asked = c .before .before in
+    let answered = asked .before in
+    let given = answered .before .before .before .before .args in
+    let call = callVerdict (given .plan .now) (given .events .now) (given .state) (given .asked) in
+    eqb-true (call .number) 0 (accepted-by _ _ call (asked .accepted .ensures) (c .before .if1 .left) (answered .call-answer .ensures))
 
 pub run-spec : {M : Type 1} → statement M
 run-spec =
