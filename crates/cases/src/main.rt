@@ -2,6 +2,8 @@
 // A case beyond the stream's limits, of an unknown entry or cut short prints `bad case` and ends the program.
 use answers::Answer;
 use event_reader::Reading;
+use kernel::Kernel;
+use kernel::Outcome;
 use libc::STDIN_FILENO;
 use libc::STDOUT_FILENO;
 use state::State;
@@ -130,21 +132,128 @@ fn print_size(n: usize) {
     io::print_decimal(STDOUT_FILENO, n as u64);
 }
 
-// A run from a state on a lent trace, and what it left there.
-fn run_on(plan: &[u8], events: &[u8], state: State, asked: u32, trace: &mut [u32]) -> bool {
-    let ended = kernel::run(plan, events, state, asked, trace);
+// What a run answered, and what it left on its trace.
+fn print_outcome(ended: Outcome, trace: &[u32]) -> bool {
     let answer = ended.answer;
     let next = ended.state;
     print_answer(answer);
     print(b" ", ended.ticks);
     print_size(ended.records);
-    print_values(&trace[0..]);
+    print_values(trace);
     print_state(next);
     end_line()
 }
 
+// 0 past the end.
+fn value_at(values: &[u32], i: usize) -> u32 {
+    if i < values.len() { values[i] } else { 0 }
+}
+
+fn same_values(left: &[u32], right: &[u32]) -> bool {
+    let mut same = left.len() == right.len();
+    let mut i = 0;
+    while i < left.len() {
+        same = same & (left[i] == value_at(right, i));
+        i += 1;
+    }
+    same
+}
+
+fn same_ports(left: [u32; PORTS], right: [u32; PORTS]) -> bool {
+    same_values(&left, &right)
+}
+
+fn same_task(left: TaskState, right: TaskState) -> bool {
+    let status = left.status;
+    let latched = left.latched;
+    let held = left.held;
+    let other_status = right.status;
+    let other_latched = right.latched;
+    let other_held = right.held;
+    (status_number(status) == status_number(other_status))
+        & (left.remaining == right.remaining)
+        & (left.release == right.release)
+        & (left.machine == right.machine)
+        & same_ports(latched, other_latched)
+        & same_ports(held, other_held)
+}
+
+fn same_tasks(left: [TaskState; TASKS], right: [TaskState; TASKS]) -> bool {
+    let mut same = true;
+    let mut i = 0;
+    while i < TASKS {
+        let task = left[i];
+        let other = right[i];
+        same = same & same_task(task, other);
+        i += 1;
+    }
+    same
+}
+
+fn same_signals(left: [u32; SIGNALS], right: [u32; SIGNALS]) -> bool {
+    same_values(&left, &right)
+}
+
+fn same_state(left: State, right: State) -> bool {
+    let signals = left.signals;
+    let tasks = left.tasks;
+    let other_signals = right.signals;
+    let other_tasks = right.tasks;
+    (left.tick == right.tick)
+        & (left.place == right.place)
+        & same_signals(signals, other_signals)
+        & same_tasks(tasks, other_tasks)
+}
+
+fn same_outcome(left: Outcome, right: Outcome) -> bool {
+    let answer = left.answer;
+    let state = left.state;
+    let other_answer = right.answer;
+    let other_state = right.state;
+    (answers::number(answer) == answers::number(other_answer))
+        & (answers::place(answer) == answers::place(other_answer))
+        & (left.ticks == right.ticks)
+        & (left.records == right.records)
+        & same_state(state, other_state)
+}
+
+// Words that stand in no line that is expected, so that a difference fails whatever the run printed.
+fn say_difference(same: bool) {
+    if !same {
+        io::write_all(STDOUT_FILENO, b"Kernel::tick differs ");
+    }
+}
+
+// One tick by both entries that run: the line is the run's, and `Kernel::tick` must come to the same, to the last word of a trace
+// of its own.
+fn tick_on(plan: &[u8], events: &[u8], state: State, trace: &mut [u32], own: &mut [u32]) -> bool {
+    let ended = kernel::run(plan, events, state, 1, trace);
+    let before = Kernel { state };
+    let stepped = before.tick(plan, events, own);
+    say_difference(same_outcome(ended, stepped) & same_values(&trace[0..], &own[0..]));
+    print_outcome(ended, &trace[0..])
+}
+
+fn tick_case(plan: &[u8], events: &[u8], state: State, words: u32) -> bool {
+    let mut trace = [limits::TOP_VALUE as u32; TRACE];
+    let mut own = [limits::TOP_VALUE as u32; TRACE];
+    let size = words as usize;
+    if TRACE < size {
+        return bad_case();
+    }
+    tick_on(plan, events, state, &mut trace[..size], &mut own[..size])
+}
+
+fn run_on(plan: &[u8], events: &[u8], state: State, asked: u32, trace: &mut [u32]) -> bool {
+    let ended = kernel::run(plan, events, state, asked, trace);
+    print_outcome(ended, &trace[0..])
+}
+
 // Entries 5 and 6: every word of the lent trace is 4294967295.
 fn run_case(plan: &[u8], events: &[u8], state: State, asked: u32, words: u32) -> bool {
+    if asked == 1 {
+        return tick_case(plan, events, state, words);
+    }
     let mut trace = [limits::TOP_VALUE as u32; TRACE];
     let size = words as usize;
     if TRACE < size {

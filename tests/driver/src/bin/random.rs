@@ -117,22 +117,25 @@ impl Asked {
     }
 }
 
-/// How often each number, entry and record kind came up.
+/// How often each number, entry and record kind came up, and a run of 1 tick, which `cases` asks of both entries that run.
 #[derive(Default)]
 struct Seen {
     numbers: [usize; 27],
     entries: [usize; 8],
     kinds: [usize; 6],
+    single: usize,
 }
 
 impl Seen {
-    fn add(&mut self, entry: u32, line: &[u32]) {
+    fn add(&mut self, asked: &Asked, line: &[u32]) {
+        let entry = asked.entry;
         self.entries[entry as usize] += 1;
         // The event reader returns no number.
         if entry != 7 {
             self.numbers[line[0] as usize] += 1;
         }
         if entry == 5 || entry == 6 {
+            self.single += usize::from(asked.argument == 1);
             for record in line[4..].chunks(5).take(line[3] as usize) {
                 self.kinds[record[1] as usize] += 1;
             }
@@ -144,7 +147,7 @@ impl Seen {
         let numbers = (0..=14).chain([26]).map(|number| ("number", number, self.numbers[number]));
         let entries = (1..=7).map(|entry| ("entry", entry, self.entries[entry]));
         let kinds = (1..=5).map(|kind| ("record kind", kind, self.kinds[kind]));
-        numbers.chain(entries).chain(kinds).collect()
+        numbers.chain(entries).chain(kinds).chain([("ticks asked", 1, self.single)]).collect()
     }
 }
 
@@ -203,7 +206,7 @@ impl Random<'_> {
         let mut lines = printed.lines();
         for (at, asked) in batch.iter().enumerate() {
             let words = asked.line();
-            seen.add(asked.entry, &words);
+            seen.add(asked, &words);
             let (line, wanted) = (lines.next(), join(&words));
             let name = format!("cases-{seed}-{}", first as usize + at);
             self.tally.record(&name, line == Some(&wanted), || {

@@ -35,6 +35,12 @@ fn sizes() -> Vec<Run> {
         Run::of("0 ticks, no trace", &sample()).asks(0, 0).gives(0, 0, 0),
         Run::of("12 ticks, no trace", &sample()).asks(12, 0).gives(14, 0, 0),
         Run::of("one word short of the first tick's records", &sample()).asks(12, 9).gives(14, 0, 0),
+        // Runs of 1 tick are asked of both entries that run (crates/cases).
+        Run::of("1 tick, no trace", &sample()).asks(1, 0).gives(14, 0, 0),
+        Run::of("1 tick, one word short of its records", &sample()).asks(1, 9).gives(14, 0, 0),
+        Run::of("1 tick, exactly full", &sample()).asks(1, 10).gives(0, 1, 2),
+        Run::of("1 tick, the longest trace", &sample()).asks(1, 15_000).gives(0, 1, 2),
+        Run::of("1 tick of a plan that is refused", &many(17, 64)).asks(1, 10).says(2, 0),
         Run::of("full after the first tick, and five asked", &sample()).asks(5, 10).gives(0, 5, 2),
         Run::of("full after the first tick, and six asked", &sample()).asks(6, 10).gives(14, 5, 2),
         Run::of("four words beyond the first tick's records", &sample()).asks(6, 14).gives(14, 5, 2),
