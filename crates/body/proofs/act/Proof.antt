@@ -6,19 +6,66 @@ use Rattle.body.proofs.act.Tie as tie
 
 returns : tie.Need-returns
 unfolding doAction
-returns c = rw (← c .before .before .before .before .before .before .before .before .known .ensures, c .before .before .before .before .match .keys1, ← c .before .before .before .before .before .before .before .known2 .ensures, ← c .before .before .before .before .before .before .known3 .ensures) (c .before .before .put .ensures)
+returns c =
+    let arm = c .before .before .before .before in
+    let read = arm .before in
+    rw (
+      ← read .before .before .before .known .ensures,
+      arm .match .keys1,
+      ← read .before .before .known2 .ensures,
+      ← read .before .known3 .ensures,
+    )
+    (c .before .before .put .ensures)
 
 returns-2 : tie.Need-returns-2
 unfolding doAction
-returns-2 c = rw (← c .before .before .before .before .before .before .before .before .known .ensures, c .before .before .before .before .match .keys2, ← c .before .before .before .before .before .before .before .known2 .ensures, ← c .before .before .before .before .before .before .known3 .ensures, ← c .before .before .before .before .before .get .ensures) (c .before .before .put2 .ensures)
+returns-2 c =
+    let arm = c .before .before .before .before in
+    let read = arm .before in
+    rw (
+      ← read .before .before .before .known .ensures,
+      arm .match .keys2,
+      ← read .before .before .known2 .ensures,
+      ← read .before .known3 .ensures,
+      ← read .get .ensures,
+    )
+    (c .before .before .put2 .ensures)
 
 returns-3 : tie.Need-returns-3
 unfolding doAction
-returns-3 c = rw (← c .before .before .before .before .before .before .before .before .before .before .before .known .ensures, c .before .before .before .before .before .before .before .match .keys3, ← c .before .before .before .before .before .before .before .before .before .before .known2 .ensures, ← c .before .before .before .before .before .before .before .before .before .known3 .ensures, ← c .before .before .before .before .before .before .before .before .get .ensures, ← c .before .before .before .before .before .get2 .ensures, ← c .before .before .before .before .wrapping-add-u32 .ensures) (c .before .before .put3 .ensures)
+returns-3 c =
+    let sum = c .before .before .before .before in
+    let arm = sum .before .before .before in
+    let read = arm .before in
+    rw (
+      ← read .before .before .before .known .ensures,
+      arm .match .keys3,
+      ← read .before .before .known2 .ensures,
+      ← read .before .known3 .ensures,
+      ← read .get .ensures,
+      ← sum .before .get2 .ensures,
+      ← sum .wrapping-add-u32 .ensures,
+    )
+    (c .before .before .put3 .ensures)
 
 returns-4 : tie.Need-returns-4
 unfolding doAction
-returns-4 c = rw (← c .before .before .before .before .before .before .before .before .before .known .ensures, ne-eqb _ _ (c .before .before .before .before .before .match .rest .0 .0 .1), ne-eqb _ _ (c .before .before .before .before .before .match .rest .0 .1), ne-eqb _ _ (c .before .before .before .before .before .match .rest .1), ← c .before .before .before .before .before .before .before .before .known2 .ensures, ← c .before .before .before .before .before .before .before .known3 .ensures, ← c .before .before .before .before .before .before .get .ensures, ← c .before .before .before .known4 .ensures) (c .before .before .transfer .ensures)
+returns-4 c =
+    let second = c .before .before .before in
+    let arm = second .before .before in
+    let read = arm .before in
+    let other = arm .match .rest in
+    rw (
+      ← read .before .before .before .known .ensures,
+      ne-eqb _ _ (other .0 .0 .1),
+      ne-eqb _ _ (other .0 .1),
+      ne-eqb _ _ (other .1),
+      ← read .before .before .known2 .ensures,
+      ← read .before .known3 .ensures,
+      ← read .get .ensures,
+      ← second .known4 .ensures,
+    )
+    (c .before .before .transfer .ensures)
 
 pub act-spec : {M : Type 1} → statement M
 act-spec =

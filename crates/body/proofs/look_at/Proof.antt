@@ -9,10 +9,27 @@ returns : tie.Need-returns
 returns c = (rw (← c .before .known .ensures, ne-eqb _ _ (c .if1 .taken)), search needs)
 
 returns-2 : tie.Need-returns-2
-returns-2 c = (rw (← c .before .before .before .before .known .ensures, eq-eqb _ _ (c .before .before .before .if1 .left), ← c .before .before .known2 .ensures, ← c .before .get .ensures, eq-eqb _ _ (c .if2 .taken)), search needs)
+returns-2 c =
+    let same = c .before .before .before in (
+      rw (
+        ← same .before .known .ensures,
+        eq-eqb _ _ (same .if1 .left),
+        ← c .before .before .known2 .ensures,
+        ← c .before .get .ensures,
+        eq-eqb _ _ (c .if2 .taken),
+      ),
+      search needs,
+    )
 
 returns-3 : tie.Need-returns-3
-returns-3 c = (rw (eq-eqb _ _ (sym (c .before .before .before .before .before .known .ensures) ∙ c .before .before .before .before .if1 .left), ne-eqb _ _ (λ e. c .before .if2 .left (c .before .before .get .ensures ∙ ap (λ i. getD (c .before .before .before .before .before .before .before .before .args .latched .now) i 0) (c .before .before .before .known2 .ensures) ∙ e))) (c .sooner-of .ensures .0), search needs)
+returns-3 c =
+    let fires = c .before in
+    let asked = fires .before in
+    let same = asked .before .before in
+    let latched = same .before .before .before .before .args .latched .now in
+    let state = sym (same .before .known .ensures) ∙ same .if1 .left in
+    let value = asked .get .ensures ∙ ap (λ i. getD latched i 0) (asked .before .known2 .ensures) in
+    (rw (eq-eqb _ _ state, ne-eqb _ _ (λ e. fires .if2 .left (value ∙ e))) (c .sooner-of .ensures .0), search needs)
 
 pub look-at-spec : {M : Type 1} → statement M
 look-at-spec =

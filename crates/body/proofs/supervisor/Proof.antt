@@ -5,7 +5,19 @@ use Rattle.body.proofs.supervisor.Tie as tie
 
 returns : tie.Need-returns
 unfolding supervise
-returns c = rw (c .before .before .run-if .ensures, c .before .before .before .before .before .before .put2 .ensures, c .before .before .before .before .before .before .before .before .before .before .before .put .ensures, c .before .before .before .before .before .before .before .bit .ensures, c .before .before .before .before .before .before .before .before .before .before .before .before .before .next-state .ensures, c .before .before .before .before .before .before .before .before .before .before .before .before .before .before .choose .ensures .0)
+returns c =
+    let ran = c .before .before in
+    let second = ran .before .before .before .before in
+    let first = second .before .before .before .before .before in
+    let next = first .before .before in
+    rw (
+      ran .run-if .ensures,
+      second .put2 .ensures,
+      first .put .ensures,
+      second .before .bit .ensures,
+      next .next-state .ensures,
+      next .before .choose .ensures .0,
+    )
 
 pub supervisor-spec : {M : Type 1} → statement M
 supervisor-spec =

@@ -10,11 +10,20 @@ sub-put : tie.Need-sub-put
 sub-put c = leb-true _ _ (and-left _ _ (c .before .if1 .taken))
 
 add-put : tie.Need-add-put
-add-put c = record { fits = room (c .before .before .before .before .before .before .before .before .before .before .before .args .m) (c .before .before .before .before .before .before .before .before .get .result) _ (c .before .before .before .before .before .if1 .taken) }
+add-put c =
+    let may = c .before .before .before .before .before in
+    let first = may .before .before .before in
+    record { fits = room (first .before .before .before .args .m) (first .get .result) _ (may .if1 .taken) }
 
 returns : tie.Need-returns
 unfolding move
-returns c = rw (← c .before .before .before .before .before .before .before .before .before .before .before .get .ensures, ← c .before .before .before .before .before .before .before .before .before .get2 .ensures, c .before .before .before .before .before .before .before .before .if1 .taken, ← c .before .before .before .before .before .before .put .ensures) (c .before .before .put2 .ensures)
+returns c =
+    let given = c .before .before in
+    let taken = given .before .before .before .before in
+    let may = taken .before .before in
+    let second = may .before in
+    let first = second .before .before in
+    rw (← first .get .ensures, ← second .get2 .ensures, may .if1 .taken, ← taken .put .ensures) (given .put2 .ensures)
 
 returns-2 : tie.Need-returns-2
 unfolding move

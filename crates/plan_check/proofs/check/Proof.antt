@@ -21,7 +21,11 @@ returns c =
 
 -- the first three rules hold
 passed : (c : tie.After-all-tasks) → eqb (firstBroken (headRules (c .before .before .before .before .before .before .before .args .bytes .now)) .number) 0 ≡ true
-passed c = asked true (c .before .before .before .before .accepted .result) _ _ (c .before .before .before .before .accepted .ensures) (not-false (c .before .before .before .before .accepted .result) (c .before .before .before .if1 .left)) (c .before .before .before .before .before .head-answer .ensures)
+passed c =
+    let past = c .before .before .before in
+    let head = past .before in
+    asked true (head .accepted .result) _ _ (head .accepted .ensures) (not-false (head .accepted .result) (past .if1 .left))
+    (head .before .head-answer .ensures)
 
 -- what the tasks' answer says
 each : (c : tie.After-all-tasks) → said (c .all-tasks .result) ≡ firstBroken (eachTask (c .before .before .before .before .before .before .before .args .bytes .now))
@@ -37,11 +41,13 @@ returns-2 c =
 
 returns-3 : tie.Need-returns-3
 returns-3 c =
-    let bytes = c .before .before .before .before .before .before .before .before .before .before .args .bytes .now in
-    let hold = asked true (c .before .before .accepted2 .result) _ _ (c .before .before .accepted2 .ensures) (not-false (c .before .before .accepted2 .result) (c .before .if2 .left)) (each (c .before .before .before)) in
-    (rw (c .before .before .before .before .word2 .ensures) at (c .clashes .ensures))
-    ∙ sym (head-passes bytes (passed (c .before .before .before))
-    ∙ clashes-are bytes (signals-limit bytes (passed (c .before .before .before))) (eqb-true _ 0 hold))
+    let past = c .before in
+    let tasks = past .before in
+    let bytes = tasks .before .before .before .before .before .before .before .before .args .bytes .now in
+    let hold = asked true (tasks .accepted2 .result) _ _ (tasks .accepted2 .ensures) (not-false (tasks .accepted2 .result) (past .if2 .left)) (each (tasks .before)) in
+    (rw (tasks .before .before .word2 .ensures) at (c .clashes .ensures))
+    ∙ sym (head-passes bytes (passed (tasks .before))
+    ∙ clashes-are bytes (signals-limit bytes (passed (tasks .before))) (eqb-true _ 0 hold))
 
 pub check-spec : {M : Type 1} → statement M
 check-spec =

@@ -25,7 +25,23 @@ loop-holds : tie.Need-loop-holds Inv-loop μ-loop
 loop-holds c = (search needs, rw (sub-zero, orders-are))
 
 loop-again : tie.Need-loop-again Inv-loop μ-loop
-loop-again c = (search needs, rw (c .before .before .before .before .before .before .before .loop .inv .1, orders-more _ _ _ _ _ _ (c .before .before .before .before .before .before .loop-test .taken), c .with-mark .ensures, c .before .is-marked .ensures, c .before .before .before .slot-of .ensures .0, c .before .before .before .before .known .ensures, c .before .before .known2 .ensures, c .before .before .before .before .before .transition-holds .ensures))
+loop-again c =
+    let marked = c .before in
+    let slot = marked .before .before in
+    let one = slot .before .before in
+    let turn = one .before in (
+      search needs,
+      rw (
+        turn .before .loop .inv .1,
+        orders-more _ _ _ _ _ _ (turn .loop-test .taken),
+        c .with-mark .ensures,
+        marked .is-marked .ensures,
+        slot .slot-of .ensures .0,
+        slot .before .known .ensures,
+        marked .before .known2 .ensures,
+        one .transition-holds .ensures,
+      ),
+    )
 
 returns : tie.Need-returns Inv-loop μ-loop
 returns c = rw (c .before .loop .inv .1, orders-done _ _ _ _ _ _ (c .loop-test .left))

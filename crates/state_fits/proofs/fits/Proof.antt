@@ -10,11 +10,26 @@ use Rattle.state_fits.proofs.fits.Tie as tie
 returns : tie.Need-returns
 unfolding fits
 returns c =
-    let state = c .before .before .before .before .before .before .before .before .before .before .before .before .before .args .t3 in
-    let right = state-sized state _ (c .before .before .before .before .before .before .before .before .before .before .before .before .before .good .1 .1 .0) in
-    let place = place-told (c .before .before .before .before .before .before .before .before .before .before .before .before .before .args .plan .now) (c .before .before .before .before .before .before .before .before .before .before .before .before .before .args .events .now) (c .before .before .before .before .before .before .before .before .before .before .before .before .before .pre) (state .tick) (state .place) in
-    let tasks = apart (c .before .before .before .before .before .before .before .before .before .before .before .before .before .args .plan .now) (state .tick) (state .tasks) (c .before .before .before .before .before .before .before .before .smaller .result) (rw (c .before .before .before .before .before .before .before .before .smaller .ensures, c .before .before .before .before .before .before .before .before .before .word .ensures)) in
-    rw (right, ← place, ← c .before .before .before .before .before .before .before .place-holds .ensures, signals-length, ← c .before .before .before .word2 .ensures, ← c .before .before .zeros-from .ensures, tasks, ← c .before .tasks-fit .ensures, ← c .rest-idle .ensures)
+    let signals = c .before .before in
+    let placed = signals .before .before .before .before .before in
+    let counted = placed .before in
+    let start = counted .before .before .before .before .before in
+    let plan = start .args .plan .now in
+    let state = start .args .t3 in
+    let right = state-sized state _ (start .good .1 .1 .0) in
+    let place = place-told plan (start .args .events .now) (start .pre) (state .tick) (state .place) in
+    let tasks = apart plan (state .tick) (state .tasks) (counted .smaller .result) (rw (counted .smaller .ensures, counted .before .word .ensures)) in
+    rw (
+      right,
+      ← place,
+      ← placed .place-holds .ensures,
+      signals-length,
+      ← signals .before .word2 .ensures,
+      ← signals .zeros-from .ensures,
+      tasks,
+      ← c .before .tasks-fit .ensures,
+      ← c .rest-idle .ensures,
+    )
 
 pub fits-spec : {M : Type 1} → statement M
 fits-spec =

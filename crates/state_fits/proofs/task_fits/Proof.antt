@@ -6,7 +6,20 @@ use Rattle.state_fits.proofs.task_fits.Tie as tie
 
 returns : tie.Need-returns
 unfolding taskFits
-returns c = rw (c .before .before .before .before .before .before .before .before .before .before .before .status-holds .ensures, c .before .before .before .before .before .before .zeros-from .ensures, c .before .zeros-from2 .ensures, c .machine-holds .ensures, c .before .before .before .before .before .before .before .word .ensures, c .before .before .word2 .ensures, inputs-length, outputs-length)
+returns c =
+    let held = c .before in
+    let latched = held .before .before .before .before .before in
+    let status = latched .before .before .before .before .before in
+    rw (
+      status .status-holds .ensures,
+      latched .zeros-from .ensures,
+      held .zeros-from2 .ensures,
+      c .machine-holds .ensures,
+      latched .before .word .ensures,
+      held .before .word2 .ensures,
+      inputs-length,
+      outputs-length,
+    )
 
 pub task-fits-spec : {M : Type 1} → statement M
 task-fits-spec =
