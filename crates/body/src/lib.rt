@@ -1,10 +1,10 @@
 // Document 01, 'The body': what a task's body leaves of its machine state and held outputs.
 ghost use mathlib.Core.Path.{_≡_};
-ghost use Prim.Native.Nat.{_+_, _*_, _<_, _≤_, _^_};
+ghost use Prim.Native.Nat.{_+_, _*_, _<_, _≤_};
 ghost use mathlib.Core.Bool.{cond};
 ghost use lib.ListN.{length};
 ghost use Rattle.words.specs.Words.{wordsOf};
-ghost use Rattle.plan.specs.File.{taskOf, transitionsAt, transitionAt, actionAt};
+ghost use Rattle.plan.specs.File.{taskOf, transitionAt, actionAt};
 ghost use Rattle.body.specs.Body.{sooner, look, fires, after, move, doAction, perform, runActions, runIf, leaves, supervise, control, body};
 ghost use Rattle.body.specs.Steps.{inHand, Whole};
 use arrays::get;
@@ -12,31 +12,10 @@ use arrays::put;
 
 const PORTS: usize = limits::PORTS as usize;
 
-// The words of a body that are read by number.
-const KIND: usize = 5;
-
-const INPUT_COUNT: usize = 7;
-
-const OUTPUT_COUNT: usize = 8;
-
-const TRANSITION_COUNT: usize = 9;
-
-const ACTION_COUNT: usize = 10;
-
-const INPUTS_AT: usize = 11;
-
 // What a body leaves; the definitions speak of it.
 pub struct Result {
     pub machine: u32,
     pub held: [u32; PORTS],
-}
-
-// The word at which the transitions start. The bounds are what its callers need to add to it safely.
-fn transitions_at(part: &[u8]) -> usize
-    ensures { λ r. ⌜ r ≡ transitionsAt (wordsOf (now (part .entry))) ⌝ }
-    ensures small { λ r. ⌜ (0 < r) × (r < 2 ^ 34) ⌝ }
-{
-    INPUTS_AT + words::word(part, INPUT_COUNT) as usize + words::word(part, OUTPUT_COUNT) as usize
 }
 
 // Transitions are held by the word at which they start, and 0 stands for none: one number, where an enum would be copied
@@ -79,12 +58,13 @@ fn choose(part: &[u8], latched: &[u32], machine: u32) -> usize
     ensures { λ r. ⌜ inHand (wordsOf (now (part .entry))) r ≡ fires (now (latched .entry)) machine (taskOf (wordsOf (now (part .entry))) .transitions) ⌝ }
     ensures inside { λ r. ⌜ r * 4 + 16 ≤ length (now (part .entry)) ⌝ }
 {
-    let first = transitions_at(part);
-    let transitions = words::word(part, TRANSITION_COUNT);
+    let first = plan::transitions_at(part);
+    let transitions = words::word(part, plan::TRANSITION_COUNT);
     let mut best: usize = 0;
     let mut j: u32 = 0;
     while j < transitions {
-        best = look_at(part, first + j as usize * 4, latched, machine, best);
+        let at = first + j as usize * plan::TRANSITION_WORDS;
+        best = look_at(part, at, latched, machine, best);
         j += 1;
     }
     best
@@ -156,11 +136,12 @@ fn run_actions(part: &[u8], latched: &[u32], state: u32, held: &mut [u32])
     requires { ⌜ Whole (now part) ⌝ }
     ensures { λ _. ⌜ now (held .exit) ≡ runActions (now (latched .entry)) state (taskOf (wordsOf (now (part .entry))) .actions) (now (held .entry)) ⌝ }
 {
-    let first = transitions_at(part) + words::word(part, TRANSITION_COUNT) as usize * 4;
-    let actions = words::word(part, ACTION_COUNT);
+    let first = plan::actions_at(part);
+    let actions = words::word(part, plan::ACTION_COUNT);
     let mut j: u32 = 0;
     while j < actions {
-        perform_at(part, first + j as usize * 5, latched, state, held);
+        let at = first + j as usize * plan::ACTION_WORDS;
+        perform_at(part, at, latched, state, held);
         j += 1;
     }
 }
@@ -205,7 +186,7 @@ pub fn run_lent(part: &[u8], latched: &[u32], machine: u32, held: &mut [u32]) ->
     requires { ⌜ Whole (now part) ⌝ }
     ensures { λ r. ⌜ leaves r (now (held .exit)) ≡ body (taskOf (wordsOf (now (part .entry)))) (now (latched .entry)) machine (now (held .entry)) ⌝ }
 {
-    if words::word(part, KIND) == 1 {
+    if words::word(part, plan::KIND) == 1 {
         supervisor(part, latched, machine, held)
     } else {
         controller(part, latched, machine, held)

@@ -35,11 +35,11 @@ fn written_signals(plan: &[u8], tasks: u32) -> u64
     marks
 }
 
-// The period of a task, word 1 of its body.
+// The period of a task.
 fn period_of(plan: &[u8], task: u32) -> u32
     ensures { λ r. ⌜ r ≡ word (bodyOf (wordsOf (now (plan .entry))) (task + 1)) 1 ⌝ }
 {
-    word(plan_check::task_part(plan, task), 1)
+    word(plan::task_part(plan, task), plan::PERIOD)
 }
 
 // The marks with a task, where that is event-driven.
@@ -77,8 +77,8 @@ struct EventTargets {
 fn targets_of(plan: &[u8]) -> EventTargets
     ensures { λ r. ⌜ r ≡ targetsBy (wordsOf (now (plan .entry))) ⌝ }
 {
-    let tasks = word(plan, 2);
-    let signals = word(plan, 1);
+    let tasks = word(plan, plan::TASK_COUNT);
+    let signals = word(plan, plan::SIGNAL_COUNT);
     let written = written_signals(plan, tasks);
     let driven = driven_tasks(plan, tasks);
     EventTargets {

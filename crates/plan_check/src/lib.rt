@@ -6,7 +6,7 @@ ghost use mathlib.Core.Bool.{true, false};
 ghost use Rattle.words.specs.Words.{wordsOf};
 ghost use Rattle.lists.specs.Lists.{tab};
 ghost use Rattle.answers.specs.Answers.{said, verdict, firstBroken, orElse};
-ghost use Rattle.plan.specs.File.{taskCount, values, bodyOf, bodyPart, taskOf};
+ghost use Rattle.plan.specs.File.{taskCount, values, bodyOf, taskOf};
 ghost use Rattle.plan.specs.Rules.{sizeRule, headRule, chained, contentsRule, oneTask, taskRules, headRules, planVerdict};
 ghost use Rattle.plan_check.specs.Places.{far};
 ghost use Rattle.plan_check.specs.Clash.{newTo, markAll, markedBy, clashNumber, numbersOf, clashOf};
@@ -25,9 +25,9 @@ fn size_holds(bytes: &[u8]) -> bool
 fn head_holds(bytes: &[u8]) -> bool
     ensures { λ r. ⌜ r ≡ headRule (wordsOf (now (bytes .entry))) ⌝ }
 {
-    let version = word(bytes, 0);
-    let signals = word(bytes, 1);
-    let tasks = word(bytes, 2);
+    let version = word(bytes, plan::VERSION);
+    let signals = word(bytes, plan::SIGNAL_COUNT);
+    let tasks = word(bytes, plan::TASK_COUNT);
     (version == 1)
         & ((1 <= signals) & (signals <= limits::SIGNALS))
         & ((1 <= tasks) & (tasks <= limits::TASKS))
@@ -39,11 +39,11 @@ fn entries_chain(bytes: &[u8], entries: u32) -> bool
     ensures { λ r. ⌜ r ≡ chained (wordsOf (now (bytes .entry))) entries 0 (3 + entries * 2) ⌝ }
 {
     let mut good = true;
-    let mut at: u64 = 3 + entries as u64 * 2;
+    let mut at = (plan::CONTENTS_AT + entries as usize * plan::ENTRY_WORDS) as u64;
     let mut k: u32 = 0;
     while k < entries {
-        let start = word(bytes, 3 + k as usize * 2);
-        let size = word(bytes, 4 + k as usize * 2);
+        let start = plan::start_of(bytes, k as usize);
+        let size = plan::length_of(bytes, k as usize);
         good = good & (start as u64 == at);
         at = at + size as u64;
         k += 1;
@@ -56,27 +56,18 @@ fn contents_hold(bytes: &[u8]) -> bool
     requires { ⌜ taskCount (wordsOf (now bytes)) ≤ maxTasks ⌝ }
     ensures { λ r. ⌜ r ≡ contentsRule (wordsOf (now (bytes .entry))) ⌝ }
 {
-    let signals = word(bytes, 1);
-    let tasks = word(bytes, 2);
-    let size = word(bytes, 4);
-    let first = 3 + (tasks as usize + 1) * 2;
+    let signals = word(bytes, plan::SIGNAL_COUNT);
+    let tasks = word(bytes, plan::TASK_COUNT);
+    let size = plan::length_of(bytes, 0);
+    let first = plan::CONTENTS_AT + (tasks as usize + 1) * plan::ENTRY_WORDS;
     (first <= bytes.len() / 4) & (size == signals) & entries_chain(bytes, tasks + 1)
-}
-
-// The body part of task i, cut to the file where an entry reaches beyond it.
-pub fn task_part(bytes: &[u8], task: u32) -> &[u8]
-    ensures { λ r. ⌜ now r ≡ bodyPart (now (bytes .entry)) task ⌝ }
-{
-    let start = word(bytes, 3 + (task as usize + 1) * 2);
-    let size = word(bytes, 4 + (task as usize + 1) * 2);
-    words::part(bytes, start, size)
 }
 
 // Rules 4, 5, 6 of task i.
 fn one_task(bytes: &[u8], task: u32, signals: u32) -> Answer
     ensures { λ r. ⌜ said r ≡ firstBroken (oneTask signals task (bodyOf (wordsOf (now (bytes .entry))) (task + 1))) ⌝ }
 {
-    plan_task::task_answer(task_part(bytes, task), signals, task)
+    plan_task::task_answer(plan::task_part(bytes, task), signals, task)
 }
 
 // Rules 4, 5 and 6 of each task.
@@ -123,10 +114,10 @@ fn mark_task(part: &[u8], outputs: bool, before: u64) -> Marked
     ensures { λ r. ⌜ r ≡ markedBy (newTo before (numbersOf outputs (taskOf (wordsOf (now (part .entry)))))) (markAll before (numbersOf outputs (taskOf (wordsOf (now (part .entry)))))) ⌝ }
 {
     if outputs {
-        let start = 11 + word(part, 7) as usize;
-        mark_words(part, start, word(part, 8), before)
+        let start = plan::outputs_at(part);
+        mark_words(part, start, word(part, plan::OUTPUT_COUNT), before)
     } else {
-        mark_words(part, 0, 1, before)
+        mark_words(part, plan::PRIORITY, 1, before)
     }
 }
 
@@ -134,7 +125,7 @@ fn mark_task(part: &[u8], outputs: bool, before: u64) -> Marked
 pub fn mark_one(bytes: &[u8], task: u32, outputs: bool, before: u64) -> Marked
     ensures { λ r. ⌜ r ≡ markedBy (newTo before (numbersOf outputs (taskOf (bodyOf (wordsOf (now (bytes .entry))) (task + 1))))) (markAll before (numbersOf outputs (taskOf (bodyOf (wordsOf (now (bytes .entry))) (task + 1))))) ⌝ }
 {
-    mark_task(task_part(bytes, task), outputs, before)
+    mark_task(plan::task_part(bytes, task), outputs, before)
 }
 
 fn clash_at(outputs: bool, task: u32) -> Answer
@@ -199,8 +190,8 @@ pub fn check(bytes: &[u8]) -> Answer
     if !answers::accepted(head) {
         return head;
     }
-    let signals = word(bytes, 1);
-    let tasks = word(bytes, 2);
+    let signals = word(bytes, plan::SIGNAL_COUNT);
+    let tasks = word(bytes, plan::TASK_COUNT);
     let each = all_tasks(bytes, signals, tasks);
     if !answers::accepted(each) {
         return each;

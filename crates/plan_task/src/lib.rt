@@ -1,6 +1,6 @@
 // Document 01, 'The plan file': the rules 4, 5 and 6 of one task, read from the part of the file that is its body.
 ghost use mathlib.Core.Path.{_≡_};
-ghost use Prim.Native.Nat.{_+_, _*_, _/_, _<_, _≤_};
+ghost use Prim.Native.Nat.{_+_, _*_, _/_, _<_, _≤_, _^_};
 ghost use mathlib.Core.Bool.{cond, _||_};
 ghost use lib.ListN.{length};
 ghost use lib.Dec.{eqb, ltb};
@@ -8,7 +8,7 @@ ghost use Rattle.words.specs.Words.{wordsOf};
 ghost use Rattle.lists.specs.Lists.{all};
 ghost use Rattle.answers.specs.Answers.{said, firstBroken};
 ghost use Rattle.plan_task.specs.Orders.{slots, slotOf};
-ghost use Rattle.plan.specs.File.{taskOf, values, transitionAt, transitionsFrom, actionAt, actionsFrom, inputsAt, actionsAt, actionCount};
+ghost use Rattle.plan.specs.File.{taskOf, values, transitionAt, transitionsFrom, actionAt, actionsFrom, actionsAt, actionCount};
 ghost use Rattle.plan.specs.Rules.{shapeRule, timingRule, supervisorRule, controllerRule, transitionRule, transitionsRule, actionRule, lowest, bodyRule, oneTask};
 use answers::Answer;
 use words::known;
@@ -22,16 +22,12 @@ fn shape_holds(part: &[u8]) -> bool
     ensures { λ r. ⌜ r ≡ shapeRule (wordsOf (now (part .entry))) ⌝ }
 {
     let length = part.len() / 4;
-    let inputs = word(part, 7);
-    let outputs = word(part, 8);
-    let transitions = word(part, 9);
-    let actions = word(part, 10);
-    let formula = 11
-        + inputs as usize
-        + outputs as usize
-        + transitions as usize * 4
-        + actions as usize * 5;
-    (11 <= length)
+    let inputs = word(part, plan::INPUT_COUNT);
+    let outputs = word(part, plan::OUTPUT_COUNT);
+    let transitions = word(part, plan::TRANSITION_COUNT);
+    let actions = word(part, plan::ACTION_COUNT);
+    let formula = plan::actions_at(part) + actions as usize * plan::ACTION_WORDS;
+    (plan::INPUTS_AT <= length)
         & (inputs <= limits::PORTS)
         & (outputs <= limits::PORTS)
         & (transitions <= limits::TRANSITIONS)
@@ -43,11 +39,11 @@ fn shape_holds(part: &[u8]) -> bool
 fn timing_holds(part: &[u8]) -> bool
     ensures { λ r. ⌜ r ≡ timingRule (taskOf (wordsOf (now (part .entry)))) ⌝ }
 {
-    let priority = word(part, 0);
-    let period = word(part, 1);
-    let deadline = word(part, 2);
-    let execution = word(part, 3);
-    let offset = word(part, 4);
+    let priority = word(part, plan::PRIORITY);
+    let period = word(part, plan::PERIOD);
+    let deadline = word(part, plan::DEADLINE);
+    let execution = word(part, plan::EXECUTION);
+    let offset = word(part, plan::OFFSET);
     let release = ((period == 0) & (offset == 0))
         | ((period != 0) & (deadline <= period) & (offset < period));
     ((1 <= priority) & (priority <= limits::PRIORITY))
@@ -61,21 +57,21 @@ fn timing_holds(part: &[u8]) -> bool
 fn kind_holds(part: &[u8]) -> bool
     ensures { λ r. ⌜ r ≡ (supervisorRule (taskOf (wordsOf (now (part .entry)))) || controllerRule (taskOf (wordsOf (now (part .entry))))) ⌝ }
 {
-    let kind = word(part, 5);
-    let initial = word(part, 6);
-    let inputs = word(part, 7);
-    let outputs = word(part, 8);
-    let transitions = word(part, 9);
+    let kind = word(part, plan::KIND);
+    let initial = word(part, plan::INITIAL);
+    let inputs = word(part, plan::INPUT_COUNT);
+    let outputs = word(part, plan::OUTPUT_COUNT);
+    let transitions = word(part, plan::TRANSITION_COUNT);
     let supervisor = (kind == 1) & ((1 <= initial) & (initial <= limits::STATES)) & (2 <= outputs);
     let controller = (kind == 2) & (initial == 0) & (transitions == 0) & (2 <= inputs);
     supervisor | controller
 }
 
-// Rule 6: whether the ports after the first `skip` ones, `count` of them, are signal numbers.
-fn signals_hold(part: &[u8], skip: u32, count: u32, signals: u32) -> bool
-    ensures { λ r. ⌜ r ≡ all (λ x. ltb x signals) (values (wordsOf (now (part .entry))) (inputsAt + skip) count) ⌝ }
+// Rule 6: whether the words from one on, `count` of them, are signal numbers.
+fn signals_hold(part: &[u8], start: usize, count: u32, signals: u32) -> bool
+    requires { ⌜ start < 2 ^ 33 ⌝ }
+    ensures { λ r. ⌜ r ≡ all (λ x. ltb x signals) (values (wordsOf (now (part .entry))) start count) ⌝ }
 {
-    let start = 11 + skip as usize;
     let mut good = true;
     let mut j: u32 = 0;
     while j < count {
@@ -122,7 +118,7 @@ fn transitions_hold(part: &[u8], first: usize, count: u32, inputs: u32) -> bool
     let mut good = true;
     let mut j: u32 = 0;
     while j < count {
-        let at = first + j as usize * 4;
+        let at = first + j as usize * plan::TRANSITION_WORDS;
         let one = transition_holds(part, at, inputs);
         let slot = slot_of(known(part, at));
         let order = known(part, at + 2);
@@ -171,7 +167,7 @@ fn actions_hold(part: &[u8], first: usize, count: u32, ports: Ports) -> bool
     let mut good = true;
     let mut j: u32 = 0;
     while j < count {
-        let one = action_holds(part, first + j as usize * 5, ports);
+        let one = action_holds(part, first + j as usize * plan::ACTION_WORDS, ports);
         good = good & one;
         j += 1;
     }
@@ -190,20 +186,19 @@ fn body_holds(part: &[u8], signals: u32) -> bool
     requires { ⌜ actionsAt (wordsOf (now part)) + actionCount (wordsOf (now part)) * 5 ≡ length (now part) / 4 ⌝ }
     ensures { λ r. ⌜ r ≡ bodyRule signals (taskOf (wordsOf (now (part .entry)))) ⌝ }
 {
-    let kind = word(part, 5);
-    let inputs = word(part, 7);
-    let outputs = word(part, 8);
-    let transitions = word(part, 9);
-    let actions = word(part, 10);
-    let first = 11 + inputs as usize + outputs as usize;
+    let kind = word(part, plan::KIND);
+    let inputs = word(part, plan::INPUT_COUNT);
+    let outputs = word(part, plan::OUTPUT_COUNT);
+    let transitions = word(part, plan::TRANSITION_COUNT);
+    let actions = word(part, plan::ACTION_COUNT);
     let lowest = lowest_output(kind);
     kind_holds(part)
-        & signals_hold(part, 0, inputs, signals)
-        & signals_hold(part, inputs, outputs, signals)
-        & transitions_hold(part, first, transitions, inputs)
+        & signals_hold(part, plan::INPUTS_AT, inputs, signals)
+        & signals_hold(part, plan::outputs_at(part), outputs, signals)
+        & transitions_hold(part, plan::transitions_at(part), transitions, inputs)
         & actions_hold(
             part,
-            first + transitions as usize * 4,
+            plan::actions_at(part),
             actions,
             Ports {
                 inputs,

@@ -16,26 +16,6 @@ use words::word;
 
 const TASKS: usize = limits::TASKS as usize;
 
-// The words of a plan that are read by number.
-const SIGNAL_COUNT: usize = 1;
-
-const TASK_COUNT: usize = 2;
-
-// The words of a task's body that are read by number.
-const PERIOD: usize = 1;
-
-const DEADLINE: usize = 2;
-
-const EXECUTION: usize = 3;
-
-const OFFSET: usize = 4;
-
-const KIND: usize = 5;
-
-const INPUT_COUNT: usize = 7;
-
-const OUTPUT_COUNT: usize = 8;
-
 // Whether all values from place n on are 0.
 fn zeros_from(values: &[u32], n: u32) -> bool
     ensures { λ r. ⌜ r ≡ zerosFrom n (now (values .entry)) ⌝ }
@@ -69,11 +49,11 @@ fn place_holds(events: &[u8], tick: u32, place: u32) -> bool
 fn period_holds(part: &[u8], tick: u32, release: u32) -> bool
     ensures { λ r. ⌜ r ≡ periodRule tick (taskOf (wordsOf (now (part .entry)))) release ⌝ }
 {
-    let period = word(part, PERIOD);
+    let period = word(part, plan::PERIOD);
     if period == 0 {
         return true;
     }
-    let offset = word(part, OFFSET);
+    let offset = word(part, plan::OFFSET);
     if release < offset {
         return false;
     }
@@ -84,7 +64,7 @@ fn period_holds(part: &[u8], tick: u32, release: u32) -> bool
 fn in_flight_holds(part: &[u8], tick: u32, release: u32) -> bool
     ensures { λ r. ⌜ r ≡ inFlightRule tick (taskOf (wordsOf (now (part .entry)))) release ⌝ }
 {
-    let deadline = word(part, DEADLINE);
+    let deadline = word(part, plan::DEADLINE);
     let in_time = (release < tick)
         & ((deadline == 0) | (tick as usize <= release as usize + deadline as usize));
     in_time & period_holds(part, tick, release)
@@ -93,14 +73,14 @@ fn in_flight_holds(part: &[u8], tick: u32, release: u32) -> bool
 fn active_holds(part: &[u8], tick: u32, remaining: u32, release: u32) -> bool
     ensures { λ r. ⌜ r ≡ statusRule Status.ACTIVE tick (taskOf (wordsOf (now (part .entry)))) remaining release ⌝ }
 {
-    let execution = word(part, EXECUTION);
+    let execution = word(part, plan::EXECUTION);
     ((1 <= remaining) & (remaining <= execution)) & in_flight_holds(part, tick, release)
 }
 
 fn finished_holds(part: &[u8], tick: u32, remaining: u32, release: u32) -> bool
     ensures { λ r. ⌜ r ≡ statusRule Status.FINISHED tick (taskOf (wordsOf (now (part .entry)))) remaining release ⌝ }
 {
-    let deadline = word(part, DEADLINE);
+    let deadline = word(part, plan::DEADLINE);
     (remaining == 0) & (deadline != 0) & in_flight_holds(part, tick, release)
 }
 
@@ -118,7 +98,7 @@ fn status_holds(part: &[u8], tick: u32, status: Status, remaining: u32, release:
 fn machine_holds(part: &[u8], machine: u32) -> bool
     ensures { λ r. ⌜ r ≡ machineRule (taskOf (wordsOf (now (part .entry)))) machine ⌝ }
 {
-    let kind = word(part, KIND);
+    let kind = word(part, plan::KIND);
     ((kind == 1) & ((1 <= machine) & (machine <= limits::STATES))) | ((kind != 1) & (machine == 0))
 }
 
@@ -128,8 +108,8 @@ fn task_fits(part: &[u8], tick: u32, x: TaskState) -> bool
 {
     let status = x.status;
     status_holds(part, tick, status, x.remaining, x.release)
-        & zeros_from(&x.latched, word(part, INPUT_COUNT))
-        & zeros_from(&x.held, word(part, OUTPUT_COUNT))
+        & zeros_from(&x.latched, word(part, plan::INPUT_COUNT))
+        & zeros_from(&x.held, word(part, plan::OUTPUT_COUNT))
         & machine_holds(part, x.machine)
 }
 
@@ -166,7 +146,7 @@ fn tasks_fit(plan: &[u8], tick: u32, tasks: [TaskState; TASKS], count: u32) -> b
     let mut i: u32 = 0;
     while i < count {
         let x = tasks[i as usize];
-        let one = task_fits(plan_check::task_part(plan, i), tick, x);
+        let one = task_fits(plan::task_part(plan, i), tick, x);
         good = good & one;
         i += 1;
     }
@@ -201,9 +181,9 @@ pub fn fits(plan: &[u8], events: &[u8], state: State) -> bool
 {
     let tick = state.tick;
     let tasks = state.tasks;
-    let count = smaller(word(plan, TASK_COUNT), limits::TASKS);
+    let count = smaller(word(plan, plan::TASK_COUNT), limits::TASKS);
     (tick <= limits::TIME)
         & place_holds(events, tick, state.place)
-        & zeros_from(&state.signals, word(plan, SIGNAL_COUNT))
+        & zeros_from(&state.signals, word(plan, plan::SIGNAL_COUNT))
         & (tasks_fit(plan, tick, tasks, count) & rest_idle(tasks, count))
 }

@@ -18,22 +18,6 @@ const SIGNALS: usize = limits::SIGNALS as usize;
 
 const TASKS: usize = limits::TASKS as usize;
 
-// The words of a plan that are read by number.
-const SIGNAL_COUNT: usize = 1;
-
-const TASK_COUNT: usize = 2;
-
-const SIGNALS_START: usize = 3;
-
-// The words of a task's body that are read by number.
-const INITIAL: usize = 6;
-
-const INPUT_COUNT: usize = 7;
-
-const OUTPUT_COUNT: usize = 8;
-
-const INPUTS_AT: usize = 11;
-
 // What stands from T on.
 fn idle_task() -> TaskState
     ensures { λ r. ⌜ r ≡ idle ⌝ }
@@ -64,8 +48,8 @@ pub fn zero_state() -> State
 fn initial_value(plan: &[u8], signal: u32) -> u32
     ensures { λ r. ⌜ r ≡ valueAt (planOf (now (plan .entry)) .signals) signal ⌝ }
 {
-    if signal < word(plan, SIGNAL_COUNT) {
-        word(plan, word(plan, SIGNALS_START) as usize + signal as usize)
+    if signal < word(plan, plan::SIGNAL_COUNT) {
+        word(plan, plan::start_of(plan, 0) as usize + signal as usize)
     } else {
         0
     }
@@ -88,8 +72,8 @@ fn fresh_signals(plan: &[u8]) -> [u32; SIGNALS]
 fn initial_output(plan: &[u8], part: &[u8], position: u32) -> u32
     ensures { λ r. ⌜ r ≡ getD (map (valueAt (planOf (now (plan .entry)) .signals)) (taskOf (wordsOf (now (part .entry))) .outputs)) position 0 ⌝ }
 {
-    if position < word(part, OUTPUT_COUNT) {
-        let at = INPUTS_AT + word(part, INPUT_COUNT) as usize + position as usize;
+    if position < word(part, plan::OUTPUT_COUNT) {
+        let at = plan::outputs_at(part) + position as usize;
         initial_value(plan, word(part, at))
     } else {
         0
@@ -117,7 +101,7 @@ fn fresh_task(plan: &[u8], part: &[u8]) -> TaskState
         status: Status::READY,
         remaining: 0,
         release: 0,
-        machine: word(part, INITIAL),
+        machine: word(part, plan::INITIAL),
         latched: [0; PORTS],
         held,
     }
@@ -127,8 +111,8 @@ fn fresh_task(plan: &[u8], part: &[u8]) -> TaskState
 fn fresh_at(plan: &[u8], task: u32) -> TaskState
     ensures { λ r. ⌜ r ≡ freshAt (planOf (now (plan .entry))) task ⌝ }
 {
-    if task < word(plan, TASK_COUNT) {
-        fresh_task(plan, plan_check::task_part(plan, task))
+    if task < word(plan, plan::TASK_COUNT) {
+        fresh_task(plan, plan::task_part(plan, task))
     } else {
         idle_task()
     }

@@ -43,13 +43,7 @@ fn finish_task(plan: &[u8], task: u32, tasks: &mut [u32], latched: &[u32], held:
     ensures { λ _. ⌜ Finished (wordsOf (now (plan .entry))) task (now (latched .entry)) (now (tasks .entry)) (now (tasks .exit)) (now (held .entry)) (now (held .exit)) ⌝ }
 {
     let machine = task_field(tasks, task, arrays::MACHINE);
-    let next = run_ports(
-        plan_check::task_part(plan, task),
-        task,
-        machine,
-        latched,
-        held,
-    );
+    let next = run_ports(plan::task_part(plan, task), task, machine, latched, held);
     let at = task as usize * arrays::FIELDS;
     put(tasks, at, arrays::FINISHED);
     put(tasks, at + 1, 0);

@@ -25,18 +25,26 @@ loop-holds : tie.Need-loop-holds Inv-loop μ-loop
 loop-holds c = (search needs, search needs, rw sub-zero)
 
 loop-again : tie.Need-loop-again Inv-loop μ-loop
-loop-again c = (
-  search needs,
-  c .before .before .perform-at .kept .1 .1 .1 .1 .0 ∙ c .before .before .before .before .before .loop .inv .1,
-  rw (c .before .before .before .before .before .loop .inv .2, turn-more _ _ _ _ _ (c .before .before .before .before .loop-test .taken), c .before .before .perform-at .ensures, c .before .before .before .before .before .before .before .before .transitions-at .ensures .0, c .before .before .before .before .before .before .before .word .ensures),
-)
+loop-again c =
+    let done = c .before .before in
+    let turn = done .before .before in
+    let loop = turn .before in (
+      search needs,
+      done .perform-at .kept .1 .1 .1 .1 .0 ∙ loop .loop .inv .1,
+      rw (
+        loop .loop .inv .2,
+        turn-more _ _ _ _ _ (turn .loop-test .taken),
+        done .perform-at .ensures,
+        loop .before .before .actions-at .ensures .0,
+      ),
+    )
 
 same-length : tie.Need-same-length Inv-loop μ-loop
 same-length c = c .before .loop .inv .1
 
 returns : tie.Need-returns Inv-loop μ-loop
 unfolding taskOf
-returns c = rw (← c .before .before .word2 .ensures, c .before .loop .inv .2, turn-done _ _ _ _ _ (c .loop-test .left))
+returns c = rw (← c .before .before .word .ensures, c .before .loop .inv .2, turn-done _ _ _ _ _ (c .loop-test .left))
 
 pub run-actions-spec : {M : Type 1} → statement M
 run-actions-spec =
@@ -45,10 +53,6 @@ run-actions-spec =
     Inv-loop
     μ-loop
     (λ c κs. search needs)
-    (λ c κs. search needs)
-    (λ c. search needs)
-    (λ c. search needs)
-    (λ c. search needs)
     (λ c κs. search needs)
     loop-holds
     (λ c. search needs)

@@ -25,7 +25,7 @@ loop-again : tie.Need-loop-again Inv-loop μ-loop
 loop-again c = (
   search needs,
   search needs,
-  rw (c .before .before .before .loop .inv .2, chained-more _ _ _ _ _ (c .before .before .loop-test .taken), c .before .word .ensures, c .word2 .ensures),
+  rw (c .before .before .before .loop .inv .2, chained-more _ _ _ _ _ (c .before .before .loop-test .taken), c .before .start-of .ensures, c .length-of .ensures),
 )
 
 returns : tie.Need-returns Inv-loop μ-loop
@@ -41,11 +41,7 @@ entries-chain-spec =
     (λ c. search needs)
     loop-holds
     (λ c. search needs)
-    (λ c. search needs)
-    (λ c. search needs)
     (λ c κs. search needs)
-    (λ c. search needs)
-    (λ c. search needs)
     (λ c. search needs)
     (λ c κs. search needs)
     (λ c. search needs)

@@ -6,7 +6,7 @@ use Rattle.plan_check.proofs.mark_task.Tie as tie
 
 returns : tie.Need-returns
 unfolding taskOf
-returns c = rw (c .before .before .before .if1 .taken, ← c .before .before .word .ensures, ← c .before .word2 .ensures) (c .mark-words .ensures)
+returns c = rw (c .before .before .before .if1 .taken, ← c .before .before .outputs-at .ensures .0, ← c .before .word .ensures) (c .mark-words .ensures)
 
 returns-2 : tie.Need-returns-2
 unfolding taskOf tab
@@ -17,8 +17,6 @@ mark-task-spec =
     tie.close
     (tie.spec
     (λ c κs. search needs)
-    (λ c. search needs)
-    (λ c. search needs)
     (λ c κs. search needs)
     (λ c κs. search needs)
     (λ c κs. search needs)

@@ -6,7 +6,29 @@ use Rattle.plan_task.proofs.body_holds.Tie as tie
 
 returns : tie.Need-returns
 unfolding taskOf
-returns c = rw (c .before .before .before .before .kind-holds .ensures, c .before .before .before .signals-hold .ensures, c .before .before .signals-hold2 .ensures, c .before .transitions-hold .ensures, c .actions-hold .ensures, c .before .before .before .before .before .lowest-output .ensures, c .before .before .before .before .before .before .before .before .before .before .word .ensures, c .before .before .before .before .before .before .before .before .before .word2 .ensures, c .before .before .before .before .before .before .before .before .word3 .ensures, c .before .before .before .before .before .before .before .word4 .ensures, c .before .before .before .before .before .before .word5 .ensures) (simp length-tab)
+returns c =
+    let transitions = c .before .before in
+    let outputs = transitions .before .before in
+    let inputs = outputs .before .before in
+    let kind = inputs .before in
+    let counts = kind .before .before in
+    rw (
+      kind .kind-holds .ensures,
+      inputs .signals-hold .ensures,
+      outputs .signals-hold2 .ensures,
+      transitions .transitions-hold .ensures,
+      c .actions-hold .ensures,
+      outputs .before .outputs-at .ensures .0,
+      transitions .before .transitions-at .ensures .0,
+      c .before .actions-at .ensures .0,
+      kind .before .lowest-output .ensures,
+      counts .before .before .before .before .word .ensures,
+      counts .before .before .before .word2 .ensures,
+      counts .before .before .word3 .ensures,
+      counts .before .word4 .ensures,
+      counts .word5 .ensures,
+    )
+    (simp length-tab)
 
 pub body-holds-spec : {M : Type 1} → statement M
 body-holds-spec =
@@ -17,17 +39,13 @@ body-holds-spec =
     (λ c κs. search needs)
     (λ c κs. search needs)
     (λ c κs. search needs)
-    (λ c. search needs)
-    (λ c. search needs)
-    (λ c. search needs)
-    (λ c. search needs)
     (λ c κs. search needs)
     (λ c κs. search needs)
     (λ c κs. search needs)
     (λ c κs. search needs)
     (λ c κs. search needs)
-    (λ c. search needs)
-    (λ c. search needs)
-    (λ c. search needs)
+    (λ c κs. search needs)
+    (λ c κs. search needs)
+    (λ c κs. search needs)
     (λ c κs. search needs)
     returns)

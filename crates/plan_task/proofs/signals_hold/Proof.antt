@@ -7,18 +7,18 @@ use borrow.Author.Needs.{needs}
 use Rattle.words.specs.Words.{wordsOf}
 use Rattle.lists.specs.Lists.{tab, all}
 use Rattle.lists.proofs.Laws.{all-more, all-done}
-use Rattle.plan.specs.File.{word, values, inputsAt}
+use Rattle.plan.specs.File.{word, values}
 use Rattle.plan_task.proofs.signals_hold.Statement.{statement}
 use Rattle.plan_task.proofs.signals_hold.Tie as tie
 
 abbrev Inv-loop : tie.InvT-loop
-Inv-loop part skip count signals start good₀ j₀ good j =
+Inv-loop part start count signals good₀ j₀ good j =
     (j ≤ count)
     × (all (λ x. ltb x signals) (values (wordsOf part) start count)
     ≡ (good && all (λ x. ltb x signals) (tab (λ i. word (wordsOf part) (start + i)) j (count - j))))
 
 abbrev μ-loop : tie.MeasureT-loop
-μ-loop part skip count signals start good₀ j₀ good j = count - j
+μ-loop part start count signals good₀ j₀ good j = count - j
 
 loop-holds : tie.Need-loop-holds Inv-loop μ-loop
 loop-holds c = (search needs, rw sub-zero)
@@ -35,7 +35,6 @@ signals-hold-spec =
     (tie.spec
     Inv-loop
     μ-loop
-    (λ c. search needs)
     loop-holds
     (λ c. search needs)
     (λ c. search needs)
