@@ -3,15 +3,12 @@ use mathlib.Core.Path.{_≡_, refl, sym, ap, _∙_}
 use mathlib.Core.Bool.{Bool, true, false, _&&_, false≢true}
 use mathlib.Core.List.{List, [], _∷_, _++_}
 use mathlib.Core.Logic.{_↔_}
-use Rattle.answers.specs.Answers.{Verdict, Rule, firstBroken, allHold}
-use Rattle.answers.proofs.Laws.{Numbered, zero-all, all-zero, all-append, First, refusal-first}
+use Rattle.answers.specs.Answers.{Verdict, Rule, allHold}
+use Rattle.answers.specs.Decides.{TheFirstBrokenRuleDecides}
+use Rattle.answers.proofs.Laws.{zero-all, all-zero, all-append, refusal-first}
 
--- number and place: 0 exactly when every rule holds; else those of a broken rule before which every rule holds
-pub record Decides (rs : List Rule) (v : Verdict) : Type 0 where
-  pub accepts : (v .number ≡ 0) ↔ (allHold rs ≡ true)
-  pub refuses : (v .number ≡ 0 → ⊥) → First rs v
-
-pub decides : (rs : List Rule) → Numbered rs → Decides rs (firstBroken rs)
+-- every rule before the first broken one holds
+pub decides : TheFirstBrokenRuleDecides
 decides rs h =
     record { accepts = (zero-all rs h, λ e. ap (λ (v : Verdict). v .number) (all-zero rs e)); refuses = refusal-first rs }
 

@@ -1,5 +1,5 @@
 -- What follows of every list of rules, and that a verdict has one answer only.
-use Prim.Native.Nat.{ℕ, zero, suc, _<_}
+use Prim.Native.Nat.{ℕ}
 use mathlib.Core.Path.{_≡_, refl, sym, ap, _∙_}
 use mathlib.Core.Bool.{Bool, true, false, cond, _&&_, false≢true}
 use mathlib.Core.List.{List, [], _∷_, _++_}
@@ -7,13 +7,10 @@ use native.Mathlib.Omega.{arith}
 use lib.Dec.{eqb}
 use borrow.Author.Tests.{ne-eqb}
 use Rattle.answers.specs.Answers.{Verdict, verdict, said, Rule, firstBroken, allHold, orElse}
+pub use Rattle.answers.specs.Decides.{Numbered}
+use Rattle.answers.specs.Decides.{First, OneAnswerForAVerdict}
 use Rattle.answers.specs.declared.Answer.{Answer}
 use Rattle.answers.specs.declared.Answer.the-variants.{Accepted, PlanSize, PlanHead, PlanContents, TaskShape, TaskTiming, TaskBody, SamePriority, SameOutput, EventSize, EventInstant, EventContent, StateUnfit, TooManyTicks, TraceFull, NoSuchTask}
-
--- no rule of a list has number 0, which is kept for 'accepted'
-abbrev pub Numbered : List Rule → Type 0
-Numbered [] = Unit {0}
-Numbered (r ∷ rs) = (0 < r .number) × Numbered rs
 
 -- of two lists of rules the first that is broken decides
 pub broken-append : (xs ys : List Rule) → Numbered xs → firstBroken (xs ++ ys) ≡ orElse (firstBroken xs) (firstBroken ys)
@@ -59,15 +56,6 @@ all-append (x ∷ xs) ys = go (x .holds) (all-append xs ys)
     go false e = refl
 
 -- a refusal names a broken rule before which every rule holds
-pub record First (rs : List Rule) (v : Verdict) : Type 0 where
-  pub before : List Rule
-  pub broken : Rule
-  pub later : List Rule
-  pub split : rs ≡ before ++ broken ∷ later
-  pub kept : allHold before ≡ true
-  pub breaks : broken .holds ≡ false
-  pub says : v ≡ verdict (broken .number) (broken .place)
-
 pub refusal-first : (rs : List Rule) → (firstBroken rs .number ≡ 0 → ⊥) → First rs (firstBroken rs)
 unfolding firstBroken allHold
 refusal-first [] h = absurd (h refl)
@@ -117,5 +105,5 @@ answerOf-said TooManyTicks = refl
 answerOf-said TraceFull = refl
 answerOf-said NoSuchTask = refl
 
-pub said-once : (a b : Answer) → said a ≡ said b → a ≡ b
+pub said-once : OneAnswerForAVerdict
 said-once a b e = sym (answerOf-said a) ∙ ap (λ (v : Verdict). answerOf (v .number) (v .place)) e ∙ answerOf-said b

@@ -1,4 +1,4 @@
--- What `fires` takes, said with no order of steps. No contract cites it: it shows that the definition is the paper's sentence.
+-- That `fires` takes what the paper's sentence says, one transition after the other.
 use Prim.Native.Nat.{ℕ, _≤_}
 use mathlib.Core.Path.{_≡_, refl, sym, _∙_, ap}
 use mathlib.Core.Bool.{Bool, true, false, cond, false≢true}
@@ -10,22 +10,9 @@ use lib.Dec.{ltb}
 use borrow.Author.Tests.{ltb-true, ltb-false}
 use Rattle.plan.specs.File.{Transition}
 use Rattle.body.specs.Body.{mayFire, sooner, look, inTurn, fires}
+use Rattle.body.specs.Meaning.{May, Smallest, Right, TheSmallestOrderFires}
 
 module _ (latched : List ℕ) (machine : ℕ) where
-  abbrev pub May : Transition → Type 0
-  May x = mayFire latched machine x ≡ true
-
-  -- of those that P holds of, x is one with the smallest order
-  pub record Smallest (P : Transition → Type 0) (x : Transition) : Type 0 where
-    pub among : P x
-    pub may : May x
-    pub least : (y : Transition) → P y → May y → x .order ≤ y .order
-
-  -- what is taken of those that P holds of; nothing only where none may fire
-  abbrev pub Right : (Transition → Type 0) → Option Transition → Type 0
-  Right P none = (y : Transition) → P y → May y → ⊥
-  Right P (some x) = Smallest P x
-
   abbrev Or : Transition → (Transition → Type 0) → Transition → Type 0
   Or x P y = (y ≡ x) ⊎ P y
 
@@ -33,7 +20,7 @@ module _ (latched : List ℕ) (machine : ℕ) where
   same-order x y e = let q : y .order ≡ x .order = ap (λ (z : Transition). z .order) e in omega arith
 
   -- x is looked at and may not fire
-  passed : (P : Transition → Type 0) (x : Transition) (best : Option Transition) → mayFire latched machine x ≡ false → Right P best → Right (Or x P) best
+  passed : (P : Transition → Type 0) (x : Transition) (best : Option Transition) → mayFire latched machine x ≡ false → Right latched machine P best → Right latched machine (Or x P) best
   passed P x none e r = λ y p m. ⊎-elim (λ q. false≢true (sym e ∙ ap (mayFire latched machine) (sym q) ∙ m)) (λ p′. r y p′ m) p
   passed P x (some z) e r = record {
     among = inr (r .among);
@@ -42,7 +29,7 @@ module _ (latched : List ℕ) (machine : ℕ) where
   }
 
   -- x may fire: it is taken, or the one before it stays
-  against : (P : Transition → Type 0) (x z : Transition) (b : Bool) → ltb (x .order) (z .order) ≡ b → May x → Smallest P z → Right (Or x P) (cond b (some x) (some z))
+  against : (P : Transition → Type 0) (x z : Transition) (b : Bool) → ltb (x .order) (z .order) ≡ b → May latched machine x → Smallest latched machine P z → Right latched machine (Or x P) (cond b (some x) (some z))
   against P x z true e m r = record {
     among = inl refl;
     may = m;
@@ -54,7 +41,7 @@ module _ (latched : List ℕ) (machine : ℕ) where
     least = λ y p n. ⊎-elim (λ q. omega (arith, ltb-false (x .order) (z .order) e, same-order x y q)) (λ p′. r .least y p′ n) p;
   }
 
-  chosen : (P : Transition → Type 0) (x : Transition) (best : Option Transition) → May x → Right P best → Right (Or x P) (sooner x best)
+  chosen : (P : Transition → Type 0) (x : Transition) (best : Option Transition) → May latched machine x → Right latched machine P best → Right latched machine (Or x P) (sooner x best)
   unfolding sooner
   chosen P x none m r = record {
     among = inl refl;
@@ -63,17 +50,17 @@ module _ (latched : List ℕ) (machine : ℕ) where
   }
   chosen P x (some z) m r = against P x z (ltb (x .order) (z .order)) refl m r
 
-  looked : (P : Transition → Type 0) (x : Transition) (best : Option Transition) (b : Bool) → mayFire latched machine x ≡ b → Right P best → Right (Or x P) (cond b (sooner x best) best)
+  looked : (P : Transition → Type 0) (x : Transition) (best : Option Transition) (b : Bool) → mayFire latched machine x ≡ b → Right latched machine P best → Right latched machine (Or x P) (cond b (sooner x best) best)
   looked P x best true e r = chosen P x best e r
   looked P x best false e r = passed P x best e r
 
   -- P may be said in another way
-  restated : (P Q : Transition → Type 0) → ((y : Transition) → P y → Q y) → ((y : Transition) → Q y → P y) → (best : Option Transition) → Right P best → Right Q best
+  restated : (P Q : Transition → Type 0) → ((y : Transition) → P y → Q y) → ((y : Transition) → Q y → P y) → (best : Option Transition) → Right latched machine P best → Right latched machine Q best
   restated P Q to back none r = λ y q m. r y (back y q) m
   restated P Q to back (some z) r = record { among = to z (r .among); may = r .may; least = λ y q m. r .least y (back y q) m }
 
-  walked : (P : Transition → Type 0) (xs : List Transition) (best : Option Transition) → Right P best
-      → Right (λ y. List·Memᴰ y xs ⊎ P y) (inTurn (look latched machine) xs best)
+  walked : (P : Transition → Type 0) (xs : List Transition) (best : Option Transition) → Right latched machine P best
+      → Right latched machine (λ y. List·Memᴰ y xs ⊎ P y) (inTurn (look latched machine) xs best)
   unfolding inTurn
   walked P [] best r = restated P (λ y. List·Memᴰ y [] ⊎ P y) (λ y p. inr p) (λ y q. ⊎-elim (λ n. absurd (List·Memᴰ·not-nil n)) (λ p. p) q) best r
   walked P (x ∷ xs) best r =
@@ -83,7 +70,12 @@ module _ (latched : List ℕ) (machine : ℕ) where
       (inTurn (look latched machine) xs (look latched machine x best))
       (walked (Or x P) xs (look latched machine x best) (looked P x best (mayFire latched machine x) refl r))
 
-  pub fires-smallest : (xs : List Transition) → Right (λ y. List·Memᴰ y xs) (fires latched machine xs)
-  fires-smallest xs =
+  -- of a whole list, with none in hand
+  taken : (xs : List Transition) → Right latched machine (λ y. List·Memᴰ y xs) (fires latched machine xs)
+  taken xs =
       restated (λ y. List·Memᴰ y xs ⊎ ⊥) (λ y. List·Memᴰ y xs) (λ y q. ⊎-elim (λ n. n) (λ z. absurd z) q) (λ y n. inl n) (fires latched machine xs)
       (walked (λ y. ⊥) xs none (λ y p m. p))
+
+-- so `fires` is the paper's sentence
+pub fires-smallest : TheSmallestOrderFires
+fires-smallest latched machine xs = taken latched machine xs

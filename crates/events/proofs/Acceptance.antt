@@ -14,13 +14,13 @@ use Rattle.limits.specs.Limits.{maxEventBytes, lastInstant}
 use Rattle.lists.specs.Lists.{absent}
 use Rattle.lists.proofs.Laws.{and-left, and-right, and-both, and-assoc}
 use Rattle.answers.specs.Answers.{allHold}
-use Rattle.answers.proofs.Decides.{Decides, decides, hold-append}
+use Rattle.answers.proofs.Decides.{decides, hold-append}
 use Rattle.plan.specs.File.{Task, noTask, Plan, planOf, allOutputs}
 use Rattle.plan.specs.Rules.{planRules}
-use Rattle.plan.specs.Accepted.{Accepted}
 use Rattle.plan.proofs.Acceptance.{rules-iff}
-use Rattle.events.specs.Events.{Event, eventCount, eventsOf, releaseEventRule, setEventRule, contentRule, eventRules, eventListRules, checkRules, eventsVerdict}
+use Rattle.events.specs.Events.{Event, eventCount, eventsOf, releaseEventRule, setEventRule, contentRule, eventRules, eventListRules, checkRules}
 use Rattle.events.specs.Accepted.{Releases, Sets, recordAt, AcceptedEvents}
+use Rattle.events.specs.Acceptance.{EventsAcceptedExactlyWhenTheRulesHold, EventsRefusedByTheFirstBrokenRule}
 use Rattle.plan.proofs.Laws.{signals-length, tasks-length}
 use Rattle.events.proofs.Laws.{events-length, event-at, numbered-check}
 
@@ -198,14 +198,13 @@ module _ (planBytes eventBytes : List ℕ) where
   unfolding allHold
   accepted-list a = rw (eq-eqb _ _ (a .whole), le-leb _ _ (a .size)) (each-hold planBytes 0 0 (eventsOf eventBytes) (accepted-each a))
 
--- ---- number and place: 0 exactly when every rule holds; else those of a broken rule before which every rule holds, in the
--- order of the paper
-pub verdict-decides : (planBytes eventBytes : List ℕ) → Decides (checkRules planBytes eventBytes) (eventsVerdict planBytes eventBytes)
+-- ---- the verdict
+-- as every list of rules that has no number 0
+pub verdict-decides : EventsRefusedByTheFirstBrokenRule
 verdict-decides planBytes eventBytes = decides (checkRules planBytes eventBytes) (numbered-check planBytes eventBytes)
 
--- number 0 is given exactly when the plan is accepted and the event list is, as a person would say it
-pub accepted-exactly : (planBytes eventBytes : List ℕ)
-    → (Accepted planBytes × AcceptedEvents planBytes eventBytes) ↔ (eventsVerdict planBytes eventBytes .number ≡ 0)
+-- so number 0 says that each rule holds
+pub accepted-exactly : EventsAcceptedExactlyWhenTheRulesHold
 accepted-exactly planBytes eventBytes =
     let list-iff : (allHold (eventListRules planBytes eventBytes) ≡ true) ↔ AcceptedEvents planBytes eventBytes
     = (list-accepted planBytes eventBytes, accepted-list planBytes eventBytes) in

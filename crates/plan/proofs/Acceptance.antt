@@ -15,10 +15,13 @@ use Rattle.lists.specs.Lists.{absent, Every, Pairwise}
 use Rattle.lists.proofs.Laws.{and-assoc}
 use Rattle.lists.proofs.Tests.{tests, choices, and-iff, or-iff, ltb-iff, all-iff, absent-every, every-iff, every-both, every-all, pairwise-map}
 use Rattle.answers.specs.Answers.{allHold}
-use Rattle.answers.proofs.Decides.{Decides, decides, holds}
+use Rattle.answers.proofs.Decides.{decides, holds}
 use Rattle.plan.specs.File.{signalCount, taskCount, startOf, lengthOf, Transition, Action, Task, taskOf, taskBodies, planOf, allOutputs}
-use Rattle.plan.specs.Rules.{sizeRule, headRule, firstStart, chained, contentsRule, shapeRule, releaseRule, timingRule, supervisorRule, controllerRule, sameOrder, transitionRule, transitionsRule, secondRule, actionRule, lowest, bodyRule, taskRules, allNew, afterAll, clashRules, priorityOf, planRules, planVerdict}
+use Rattle.plan.specs.Rules.{sizeRule, headRule, firstStart, chained, contentsRule, shapeRule, releaseRule, timingRule}
+use Rattle.plan.specs.Rules.{supervisorRule, controllerRule, sameOrder, transitionRule, transitionsRule, secondRule, actionRule, lowest, bodyRule}
+use Rattle.plan.specs.Rules.{taskRules, allNew, afterAll, clashRules, priorityOf, planRules}
 use Rattle.plan.specs.Accepted.{Size, Head, Contents, Shape, Timing, Kind, TransitionGood, ActionGood, Body, Accepted}
+use Rattle.plan.specs.Acceptance.{PlanAcceptedExactlyWhenTheRulesHold, PlanRefusedByTheFirstBrokenRule}
 use Rattle.plan.proofs.Laws.{plan-numbered}
 
 -- ---- 1 and 2
@@ -346,11 +349,10 @@ rules-iff bytes =
           )),
     )
 
--- number and place: 0 exactly when every rule holds; else those of a broken rule before which every rule holds, in the order
--- of the paper
-pub verdict-decides : (bytes : List ℕ) → Decides (planRules bytes) (planVerdict bytes)
+-- as every list of rules that has no number 0
+pub verdict-decides : PlanRefusedByTheFirstBrokenRule
 verdict-decides bytes = decides (planRules bytes) (plan-numbered bytes)
 
--- number 0 is given exactly when the plan is accepted, as a person would say it
-pub accepted-exactly : (bytes : List ℕ) → Accepted bytes ↔ (planVerdict bytes .number ≡ 0)
+-- so number 0 says that each rule holds
+pub accepted-exactly : PlanAcceptedExactlyWhenTheRulesHold
 accepted-exactly bytes = Iff·symm (Iff·trans (verdict-decides bytes .accepts) (rules-iff bytes))

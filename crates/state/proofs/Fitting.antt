@@ -21,7 +21,7 @@ use Rattle.plan.proofs.Facts.{accepted, task-body}
 use Rattle.events.specs.Events.{Event}
 use Rattle.state.specs.State.{stateAt, nowhere, fresh, zeroState, sizedTask, sized}
 use Rattle.state.specs.Fits.{inFlightRule, statusRule, machineRule, taskFits, isReady, isIdle, taskRule, fits}
-use Rattle.state.specs.Fitting.{SizedTask, Sized, InFlight, AtRest, Multiple, Timed, TaskFits, AllZero, Fits}
+use Rattle.state.specs.Fitting.{SizedTask, Sized, InFlight, AtRest, Multiple, Timed, TaskFits, AllZero, Fits, FitsExactlyAsThePaperSays}
 use Rattle.state.specs.declared.Status.{Status}
 use Rattle.state.specs.declared.Status.the-variants.{READY, ACTIVE, FINISHED, ERROR}
 use Rattle.state.specs.declared.TaskState.{TaskState}
@@ -261,10 +261,10 @@ module _ (planBytes : List ℕ) (good : planVerdict planBytes .number ≡ 0) whe
   unfolding taskRule
   rule-out t i x most = rw (le-ltb i (length (plan .tasks)) most) (idle-iff x)
 
-  -- number 12 is given exactly when a person would say that the state does not fit
-  pub fits-exactly : (events : List Event) (s : State) → (fits plan events s ≡ true) ↔ Fits plan events s
+  -- every clause, for every task
+  clauses-iff : (events : List Event) (s : State) → (fits plan events s ≡ true) ↔ Fits plan events s
   unfolding fits
-  fits-exactly events s =
+  clauses-iff events s =
       let size = sized-iff s in
       let signals = zeros-iff (length (plan .signals)) (s .signals) in
       let tasks = all-tab (λ i. taskRule plan (s .tick) i (stateAt (s .tasks) i)) (λ i. i) 0 maxTasks in
@@ -300,6 +300,10 @@ module _ (planBytes : List ℕ) (good : planVerdict planBytes .number ≡ 0) whe
       within : Fits plan events s → (i : ℕ) → (b : Bool) → ltb i (length (plan .tasks)) ≡ b → taskRule plan (s .tick) i (stateAt (s .tasks) i) ≡ true
       within h i true e = let less = ltb-true i (length (plan .tasks)) e in rule-in (s .tick) i (stateAt (s .tasks) i) less .1 (h .tasks i less)
       within h i false e = let from = ltb-false i (length (plan .tasks)) e in rule-out (s .tick) i (stateAt (s .tasks) i) from .1 (h .rest i from)
+
+-- so number 12 is given exactly when a person would say that the state does not fit
+pub fits-exactly : FitsExactlyAsThePaperSays
+fits-exactly planBytes good events s = clauses-iff planBytes good events s
 
 -- ---- every state that fits, is fresh or is the all-zero one has as many values in each list as the arrays of the code
 pub fits-sizes : (plan : Plan) (events : List Event) (s : State) → fits plan events s ≡ true → Sized s

@@ -22,6 +22,7 @@ use Rattle.plan.proofs.Facts.{accepted, task-body}
 use Rattle.events.specs.Events.{Event, passed}
 use Rattle.state.specs.State.{valueAt, stateAt, nowhere, idle, freshTask, fresh, zeroState, sizedTask, sized}
 use Rattle.state.specs.Fits.{machineRule, taskFits, isIdle, taskRule, fits}
+use Rattle.state.specs.Fitting.{AFreshStateFits}
 use Rattle.state.specs.Steps.{freshAt}
 use Rattle.state.proofs.Laws.{fresh-task-at}
 use Rattle.state.proofs.Zeros.{zeros-replicate, zeros-pad, all-tab}
@@ -91,10 +92,14 @@ module _ (planBytes : List ℕ) (good : planVerdict planBytes .number ≡ 0) whe
   unfolding fresh
   fresh-state-at i less = getD-tab _ nowhere 0 maxTasks i less ∙ rw (zero-add i) (fresh-task-at plan i)
 
-  -- with whatever events
-  pub fresh-fits : (events : List Event) → fits plan events (fresh plan) ≡ true
+  -- each clause of the whole state
+  clauses-hold : (events : List Event) → fits plan events (fresh plan) ≡ true
   unfolding fits fresh
-  fresh-fits events =
+  clauses-hold events =
       let signals = zeros-pad (length (plan .signals)) maxSignals (plan .signals) (omega arith) in
       let tasks = all-tab (λ i. taskRule plan 0 i (stateAt (fresh plan .tasks) i)) (λ i. i) 0 maxTasks .1 (λ i low high. ap (taskRule plan 0 i) (fresh-state-at i high) ∙ fresh-at-fits i) in
       rw (fresh-sized plan, none-passed events, signals, tasks)
+
+-- with whatever events
+pub fresh-fits : AFreshStateFits
+fresh-fits planBytes good events = clauses-hold planBytes good events

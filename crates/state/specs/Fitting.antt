@@ -2,14 +2,17 @@
 -- clauses are quoted in Fits.antt.
 use Prim.Native.Nat.{ℕ, _+_, _-_, _*_, _<_, _≤_}
 use mathlib.Core.Path.{_≡_}
+use mathlib.Core.Bool.{true}
 use mathlib.Core.List.{List}
-use mathlib.Core.Logic.{_≢_, _⊎_}
+use mathlib.Core.Logic.{_↔_, _≢_, _⊎_}
 use lib.ListN.{length, getD}
 use Rattle.limits.specs.Limits.{maxPorts, maxSignals, maxTasks, maxState, maxTime}
 use Rattle.lists.specs.Lists.{Between, Every}
-use Rattle.plan.specs.File.{Task, Plan, taskAt}
+use Rattle.plan.specs.File.{Task, Plan, planOf, taskAt}
+use Rattle.plan.specs.Rules.{planVerdict}
 use Rattle.events.specs.Events.{Event, passed}
-use Rattle.state.specs.State.{stateAt}
+use Rattle.state.specs.State.{stateAt, fresh}
+use Rattle.state.specs.Fits.{fits}
 use Rattle.state.specs.declared.Status.{Status}
 use Rattle.state.specs.declared.Status.the-variants.{READY, ACTIVE, FINISHED, ERROR}
 use Rattle.state.specs.declared.TaskState.{TaskState}
@@ -85,3 +88,17 @@ pub record Fits (plan : Plan) (events : List Event) (s : State) : Type 0 where
   pub tasks : (i : ℕ) → i < length (plan .tasks) → TaskFits (s .tick) (taskAt plan i) (stateAt (s .tasks) i)
   -- and from T on
   pub rest : (i : ℕ) → length (plan .tasks) ≤ i → AllZero (stateAt (s .tasks) i)
+
+-- ---- what is proved
+-- "12: state not fit for this plan and these events": of an accepted plan the test that the contracts cite holds exactly when a
+-- person who reads the paper would say that the state fits
+abbrev pub FitsExactlyAsThePaperSays : Type 0
+FitsExactlyAsThePaperSays =
+    (planBytes : List ℕ) → planVerdict planBytes .number ≡ 0 → (events : List Event) (s : State)
+    → (fits (planOf planBytes) events s ≡ true) ↔ Fits (planOf planBytes) events s
+
+-- a fresh state of an accepted plan fits, with whatever events: so 12 is never the answer to the state that a fresh start returned
+abbrev pub AFreshStateFits : Type 0
+AFreshStateFits =
+    (planBytes : List ℕ) → planVerdict planBytes .number ≡ 0 → (events : List Event)
+    → fits (planOf planBytes) events (fresh (planOf planBytes)) ≡ true
