@@ -23,7 +23,7 @@ use Rattle.events.specs.Accepted.{Sets, AcceptedEvents}
 use Rattle.events.proofs.Acceptance as lists
 use Rattle.events.proofs.Sets.{each-sets}
 use Rattle.state.specs.State.{stateAt, nowhere}
-use Rattle.state.specs.Fitting.{SizedTask, AllZero, Fits}
+use Rattle.state.specs.Fitting.{PortSizes, AllZero, Fits}
 use Rattle.state.specs.declared.TaskState.{TaskState}
 use Rattle.state.specs.declared.State.{State}
 use Rattle.tick.specs.Turns.{deadlineTurn, waits, isActive, runTurn}
@@ -102,7 +102,7 @@ module _ (planBytes eventBytes : List ℕ) (good : planVerdict planBytes .number
         let y = deadlineTurn t i k x .state in
         let most = few-tasks planBytes good in
         let size = fit .sizes .tasks in
-        let sized = every-at SizedTask nowhere (s .tasks) (fit .sizes .ports) i (omega arith) in
+        let sized = every-at PortSizes nowhere (s .tasks) (fit .sizes .ports) i (omega arith) in
         let g = deadlines plan events s .signals in
         let a = release-stands t g now i k (timing-of planBytes good i l) y (deadline-stands t i k x (fits-stands t k x (fit .tasks i l))) in
         let b = release-ports waits t g now i k y (λ z h. h) (deadline-ports t i k x (fits-ports t k x sized (fit .tasks i l))) in
@@ -128,7 +128,7 @@ module _ (planBytes eventBytes : List ℕ) (good : planVerdict planBytes .number
       sizes = record {
         signals = image .size;
         tasks = tick-length plan events s ∙ fit .sizes .tasks;
-        ports = every-from SizedTask nowhere (tick plan events s .state .tasks) (λ i l. sized i l (ltb i (length (plan .tasks))) refl);
+        ports = every-from PortSizes nowhere (tick plan events s .state .tasks) (λ i l. sized i l (ltb i (length (plan .tasks))) refl);
       };
       tick = omega arith;
       place = refl;
@@ -137,11 +137,11 @@ module _ (planBytes eventBytes : List ℕ) (good : planVerdict planBytes .number
       rest = λ i from. subst⁻¹ AllZero (tick-beyond plan events s i from) (fit .rest i from);
     }
       where
-        sized : (i : ℕ) → i < length (tick plan events s .state .tasks) → (b : Bool) → ltb i (length (plan .tasks)) ≡ b → SizedTask (stateAt (tick plan events s .state .tasks) i)
+        sized : (i : ℕ) → i < length (tick plan events s .state .tasks) → (b : Bool) → ltb i (length (plan .tasks)) ≡ b → PortSizes (stateAt (tick plan events s .state .tasks) i)
         sized i l true e = ports-sized (taskAt plan i) (stateAt (tick plan events s .state .tasks) i) (both i (ltb-true i (length (plan .tasks)) e) .1)
         sized i l false e =
             let size = tick-length plan events s in
-            subst⁻¹ SizedTask (tick-beyond plan events s i (ltb-false i (length (plan .tasks)) e)) (every-at SizedTask nowhere (s .tasks) (fit .sizes .ports) i (omega arith))
+            subst⁻¹ PortSizes (tick-beyond plan events s i (ltb-false i (length (plan .tasks)) e)) (every-at PortSizes nowhere (s .tasks) (fit .sizes .ports) i (omega arith))
 
   -- any number of ticks
   pub ticks-fit : (n : ℕ) (s : State) → s .tick + n ≤ maxTime → Fits plan events s → Fits plan events (ticks (tick plan events) n s .state)

@@ -27,7 +27,7 @@ use Rattle.events.proofs.Sets.{each-sets}
 use Rattle.trace.specs.Trace.{writeKind, writeEntry}
 use Rattle.trace.specs.declared.Entry.{Entry}
 use Rattle.state.specs.State.{valueAt, stateAt, nowhere}
-use Rattle.state.specs.Fitting.{SizedTask, Fits}
+use Rattle.state.specs.Fitting.{PortSizes, Fits}
 use Rattle.state.specs.declared.TaskState.{TaskState}
 use Rattle.state.specs.declared.State.{State}
 use Rattle.tick.specs.Turns.{Turn, writesOf, deadlineTurn, waits, releaseTurn, runTurn}
@@ -253,7 +253,7 @@ module _ (planBytes eventBytes : List ℕ) (good : planVerdict planBytes .number
 
   -- "8 held outputs"
   held-size : (u : State) → Fits the-plan events u → length (stateAt (u .tasks) i .held) ≡ maxPorts
-  held-size u h = let most = few-tasks planBytes good in let size = h .sizes .tasks in every-at SizedTask nowhere (u .tasks) (h .sizes .ports) i (omega arith) .held
+  held-size u h = let most = few-tasks planBytes good in let size = h .sizes .tasks in every-at PortSizes nowhere (u .tasks) (h .sizes .ports) i (omega arith) .held
 
   -- step 0: "Kind 2 sets a signal that no task writes."
   zeroth : QuietAt (begins events s)

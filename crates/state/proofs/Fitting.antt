@@ -11,7 +11,7 @@ use lib.Dec.{eqb, ltb}
 use borrow.Author.Tests.{ltb-true, ltb-false, lt-ltb, le-ltb}
 use Rattle.limits.specs.Limits.{maxSignals, maxTasks, maxState}
 use Rattle.words.specs.Words.{wordsOf}
-use Rattle.lists.specs.Lists.{between, Between, all}
+use Rattle.lists.specs.Lists.{between, Between}
 use Rattle.lists.proofs.Laws.{and-left}
 use Rattle.lists.proofs.Tests.{tests, choices, and-iff, eqb-iff, leb-iff, all-iff}
 use Rattle.plan.specs.File.{Task, taskCount, Plan, planOf, taskAt}
@@ -21,59 +21,44 @@ use Rattle.plan.proofs.Facts.{accepted, task-body}
 use Rattle.events.specs.Events.{Event}
 use Rattle.state.specs.State.{stateAt, nowhere, fresh, zeroState, sizedTask, sized}
 use Rattle.state.specs.Fits.{inFlightRule, statusRule, machineRule, taskFits, isReady, isIdle, taskRule, fits}
-use Rattle.state.specs.Fitting.{SizedTask, Sized, InFlight, AtRest, Multiple, Timed, TaskFits, AllZero, Fits, FitsExactlyAsThePaperSays}
+use Rattle.state.specs.Fitting.{PortSizes, StateSizes, InFlight, AtRest, Multiple, Timed, TaskFits, AllZero, Fits, FitsExactlyAsThePaperSays}
 use Rattle.state.specs.declared.Status.{Status}
 use Rattle.state.specs.declared.Status.the-variants.{READY, ACTIVE, FINISHED, ERROR}
 use Rattle.state.specs.declared.TaskState.{TaskState}
 use Rattle.state.specs.declared.State.{State}
 use Rattle.state.proofs.Zeros.{zeros-iff, all-tab}
 use Rattle.state.proofs.Fresh.{fresh-sized, zero-sized}
+use Rattle.state.proofs.Statuses.{ready-active, ready-finished, ready-error, active-finished, rest-flight}
 
 -- ---- sizes
-sized-task-iff : (x : TaskState) → (sizedTask x ≡ true) ↔ SizedTask x
+sized-task-iff : (x : TaskState) → (sizedTask x ≡ true) ↔ PortSizes x
 sized-task-iff x = ((λ e. let h = simp tests at e in record { latched = h .0; held = h .1 }), (λ h. simp tests (h .latched, h .held)))
 
-pub sized-iff : (s : State) → (sized s ≡ true) ↔ Sized s
+pub sized-iff : (s : State) → (sized s ≡ true) ↔ StateSizes s
 unfolding sized
 sized-iff s =
-    let each = all-iff sizedTask SizedTask sized-task-iff (s .tasks) in
+    let each = all-iff sizedTask PortSizes sized-task-iff (s .tasks) in
     let signals = eqb-iff (length (s .signals)) maxSignals in
     let tasks = eqb-iff (length (s .tasks)) maxTasks in (
       (λ e. let h = simp and-iff at e in record { signals = signals .0 (h .0 .0); tasks = tasks .0 (h .0 .1); ports = each .0 (h .1) }),
       (λ h. simp and-iff ((signals .1 (h .signals), tasks .1 (h .tasks)), each .1 (h .ports))),
     )
 
--- ---- the four are different
-tag : Status → ℕ
-tag READY = 0
-tag ACTIVE = 1
-tag FINISHED = 2
-tag ERROR = 3
-
-apart : (a b : Status) → tag a ≢ tag b → a ≢ b
-apart a b d e = d (ap tag e)
-
+-- ---- at rest or in flight
 none-ready : InFlight READY → ⊥
-unfolding tag
-none-ready (inl e) = apart READY ACTIVE (λ z. absurd (omega arith)) e
-none-ready (inr e) = apart READY FINISHED (λ z. absurd (omega arith)) e
+none-ready = rest-flight READY (inl refl)
 
 none-error : InFlight ERROR → ⊥
-unfolding tag
-none-error (inl e) = apart ERROR ACTIVE (λ z. absurd (omega arith)) e
-none-error (inr e) = apart ERROR FINISHED (λ z. absurd (omega arith)) e
+none-error = rest-flight ERROR (inr refl)
 
 active-flies : AtRest ACTIVE → ⊥
-unfolding tag
-active-flies (inl e) = apart ACTIVE READY (λ z. absurd (omega arith)) e
-active-flies (inr e) = apart ACTIVE ERROR (λ z. absurd (omega arith)) e
+active-flies a = rest-flight ACTIVE a (inl refl)
 
 finished-flies : AtRest FINISHED → ⊥
-unfolding tag
-finished-flies (inl e) = apart FINISHED READY (λ z. absurd (omega arith)) e
-finished-flies (inr e) = apart FINISHED ERROR (λ z. absurd (omega arith)) e
+finished-flies a = rest-flight FINISHED a (inr refl)
 
-multiple-iff : (d n : ℕ) → (n % d ≡ 0) ↔ Multiple d n
+-- a test of the remainder says it
+pub multiple-iff : (d n : ℕ) → (n % d ≡ 0) ↔ Multiple d n
 multiple-iff d n = (
   (λ e. record { times = n / d; product = omega (arith, div-add-mod' n d) }),
   (λ h. ap (λ (m : ℕ). m % d) (h .product) ∙ mul-mod-left (h .times) d),
@@ -155,20 +140,19 @@ module _ (t : ℕ) (k : Task) (remaining r : ℕ) where
   }
 
   status-iff : (status : Status) → (statusRule status t k remaining r ≡ true) ↔ Timed t k status remaining r
-  unfolding tag
   status-iff READY = resting READY none-ready (inl refl)
   status-iff ACTIVE =
       let both = and-iff (between 1 (k .execution) remaining) (inFlightRule t k r) in (
         (λ e.
             let h = both .0 e in
             let some = simp tests at (h .0) in
-            flown ACTIVE (λ a. some) (λ d. absurd (d refl)) (λ z. absurd (apart ACTIVE FINISHED (λ n. absurd (omega arith)) z)) active-flies
+            flown ACTIVE (λ a. some) (λ d. absurd (d refl)) (λ z. absurd (active-finished ACTIVE refl z)) active-flies
             (flight-iff .0 (h .1))),
         (λ h. both .1 (simp tests (h .active refl), flight-iff .1 (flies ACTIVE (inl refl) h))),
       )
   status-iff FINISHED =
       let both = and-iff (eqb remaining 0 && not (eqb (k .deadline) 0)) (inFlightRule t k r) in
-      let other = apart FINISHED ACTIVE (λ n. absurd (omega arith)) in (
+      let other : FINISHED ≢ ACTIVE = λ e. active-finished FINISHED e refl in (
         (λ e.
             let h = both .0 e in
             let g = simp tests at (h .0) in
@@ -212,11 +196,10 @@ task-iff t k x either =
     go h other (inr two) = h .controller two
 
 ready-iff : (status : Status) → (isReady status ≡ true) ↔ (status ≡ READY)
-unfolding tag
 ready-iff READY = ((λ e. refl), (λ e. refl))
-ready-iff ACTIVE = ((λ e. absurd (false≢true e)), (λ e. absurd (apart ACTIVE READY (λ z. absurd (omega arith)) e)))
-ready-iff FINISHED = ((λ e. absurd (false≢true e)), (λ e. absurd (apart FINISHED READY (λ z. absurd (omega arith)) e)))
-ready-iff ERROR = ((λ e. absurd (false≢true e)), (λ e. absurd (apart ERROR READY (λ z. absurd (omega arith)) e)))
+ready-iff ACTIVE = ((λ e. absurd (false≢true e)), (λ e. absurd (ready-active ACTIVE e refl)))
+ready-iff FINISHED = ((λ e. absurd (false≢true e)), (λ e. absurd (ready-finished FINISHED e refl)))
+ready-iff ERROR = ((λ e. absurd (false≢true e)), (λ e. absurd (ready-error ERROR e refl)))
 
 idle-iff : (x : TaskState) → (isIdle x ≡ true) ↔ AllZero x
 idle-iff x =
@@ -306,12 +289,12 @@ pub fits-exactly : FitsExactlyAsThePaperSays
 fits-exactly planBytes good events s = clauses-iff planBytes good events s
 
 -- ---- every state that fits, is fresh or is the all-zero one has as many values in each list as the arrays of the code
-pub fits-sizes : (plan : Plan) (events : List Event) (s : State) → fits plan events s ≡ true → Sized s
+pub fits-sizes : (plan : Plan) (events : List Event) (s : State) → fits plan events s ≡ true → StateSizes s
 unfolding fits
 fits-sizes plan events s e = sized-iff s .0 (and-left (sized s) _ e)
 
-pub fresh-sizes : (plan : Plan) → Sized (fresh plan)
+pub fresh-sizes : (plan : Plan) → StateSizes (fresh plan)
 fresh-sizes plan = sized-iff (fresh plan) .0 (fresh-sized plan)
 
-pub zero-sizes : Sized zeroState
+pub zero-sizes : StateSizes zeroState
 zero-sizes = sized-iff zeroState .0 zero-sized

@@ -19,15 +19,15 @@ use Rattle.state.specs.declared.TaskState.{TaskState}
 use Rattle.state.specs.declared.State.{State}
 
 -- eight of each
-pub record SizedTask (x : TaskState) : Type 0 where
+pub record PortSizes (x : TaskState) : Type 0 where
   pub latched : length (x .latched) ≡ maxPorts
   pub held : length (x .held) ≡ maxPorts
 
 -- all signals, and a record for each task that a plan can have
-pub record Sized (s : State) : Type 0 where
+pub record StateSizes (s : State) : Type 0 where
   pub signals : length (s .signals) ≡ maxSignals
   pub tasks : length (s .tasks) ≡ maxTasks
-  pub ports : Every SizedTask (s .tasks)
+  pub ports : Every PortSizes (s .tasks)
 
 -- ACTIVE or FINISHED is in flight, the others are at rest
 abbrev pub InFlight : Status → Type 0
@@ -79,7 +79,7 @@ pub record AllZero (x : TaskState) : Type 0 where
 
 -- the state as a whole
 pub record Fits (plan : Plan) (events : List Event) (s : State) : Type 0 where
-  pub sizes : Sized s
+  pub sizes : StateSizes s
   pub tick : s .tick ≤ maxTime
   pub place : s .place ≡ passed (s .tick) events
   -- zeros from S on

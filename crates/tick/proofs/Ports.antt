@@ -14,7 +14,7 @@ use Rattle.plan.specs.Accepted.{TransitionGood, Body}
 use Rattle.events.specs.Events.{Event}
 use Rattle.body.proofs.Keeps.{body-padded, supervisor-machine, controller-machine}
 use Rattle.state.specs.State.{valueAt}
-use Rattle.state.specs.Fitting.{SizedTask, TaskFits}
+use Rattle.state.specs.Fitting.{PortSizes, TaskFits}
 use Rattle.state.specs.declared.TaskState.{TaskState}
 use Rattle.state.proofs.Zeros.{zeros-iff, zeros-pad}
 use Rattle.tick.specs.Turns.{finish, deadlineTurn, release, releaseTurn, runTurn}
@@ -98,7 +98,7 @@ module _ (t : ℕ) (k : Task) (x : TaskState) where
   fits-stands h = stands t k (x .remaining) (x .release) (x .status) (h .timed)
 
   -- its lists and machine state
-  pub fits-ports : SizedTask x → TaskFits t k x → PortsFit k x
+  pub fits-ports : PortSizes x → TaskFits t k x → PortsFit k x
   fits-ports size h = record {
     inputs = record { size = size .latched; zeros = h .latched };
     outputs = record { size = size .held; zeros = h .held };
@@ -117,5 +117,5 @@ module _ (t : ℕ) (k : Task) (x : TaskState) where
   }
 
 -- "8 latched inputs, 8 held outputs"
-pub ports-sized : (k : Task) (x : TaskState) → PortsFit k x → SizedTask x
+pub ports-sized : (k : Task) (x : TaskState) → PortsFit k x → PortSizes x
 ports-sized k x h = record { latched = h .inputs .size; held = h .outputs .size }

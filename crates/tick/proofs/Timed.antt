@@ -1,11 +1,11 @@
 -- What steps 1, 2 and 3 do to the status, the remaining ticks and the release instant of one task: they stay as a state that fits has them.
-use Prim.Native.Nat.{ℕ, _+_, _-_, _*_, _/_, _%_, _≤_, _<_}
-use mathlib.Core.Path.{_≡_, refl, sym, ap, _∙_, subst, subst⁻¹}
+use Prim.Native.Nat.{ℕ, _+_, _-_, _*_, _%_, _≤_, _<_}
+use mathlib.Core.Path.{_≡_, refl, sym, _∙_, subst, subst⁻¹}
 use mathlib.Core.Logic.{_≢_, _⊎_, inl, inr}
 use mathlib.Core.Bool.{true, false, not, false≢true}
 use mathlib.Core.List.{List}
 use native.Mathlib.Omega.{arith}
-use native.Mathlib.Nat.{pos-of-ne-zero, div-add-mod', mul-mod-left}
+use native.Mathlib.Nat.{pos-of-ne-zero}
 use lib.Dec.{eqb, leb}
 use borrow.Author.Tests.{eqb-true, eq-eqb, ne-eqb, le-leb, leb-true}
 use Rattle.lists.specs.Lists.{Between}
@@ -18,6 +18,7 @@ use Rattle.state.specs.Fitting.{InFlight, AtRest, Multiple, Timed}
 use Rattle.state.specs.declared.Status.{Status}
 use Rattle.state.specs.declared.Status.the-variants.{READY, ACTIVE, FINISHED, ERROR}
 use Rattle.state.specs.declared.TaskState.{TaskState}
+use Rattle.state.proofs.Fitting.{multiple-iff}
 use Rattle.state.proofs.Statuses.{ready-active, active-finished, active-error, rest-flight}
 use Rattle.tick.specs.Turns.{Turn, atDeadline, deadlineTurn, due, waits, releaseTurn, isActive, runTurn}
 use Rattle.tick.proofs.Cases.{active-is, Deadline, rests, misses, writes, deadline-is, asked, Release, starts, overruns, stays, release-is, Running, goes-on, finishes, writes-at-once, run-is}
@@ -130,13 +131,6 @@ module _ (t i : ℕ) (k : Task) (x : TaskState) where
       go (writes f z) = (refl, refl)
 
 -- ---- step 2
-multiple-mod : (d n : ℕ) → Multiple d n → n % d ≡ 0
-multiple-mod d n h = ap (λ (m : ℕ). m % d) (h .product) ∙ mul-mod-left (h .times) d
-
--- and the other way round
-mod-multiple : (d n : ℕ) → n % d ≡ 0 → Multiple d n
-mod-multiple d n e = record { times = n / d; product = omega (arith, div-add-mod' n d) }
-
 module _ (t : ℕ) (signals : List ℕ) (now : List Event) (i : ℕ) (k : Task) (timing : Timing k) (x : TaskState) where
   -- in flight one tick longer
   longer : Ahead t k (x .release) → (k .deadline ≡ 0 → 0 < k .period → t < x .release + k .period) → Flight (t + 1) k (x .release)
@@ -166,7 +160,7 @@ module _ (t : ℕ) (signals : List ℕ) (now : List Event) (i : ℕ) (k : Task) 
           let q = m .product in
           let next : t - k .offset ≡ (m .times + 1) * k .period = omega arith in
           absurd (false≢true (sym e ∙ and-both (leb (k .offset) t) (eqb ((t - k .offset) % k .period) 0) (le-leb (k .offset) t (omega arith))
-          (eq-eqb _ _ (multiple-mod (k .period) (t - k .offset) (record { times = m .times + 1; product = next })))))
+          (eq-eqb _ _ (multiple-iff (k .period) (t - k .offset) .1 (record { times = m .times + 1; product = next })))))
       go (inr other) = let l = f .inPeriod p in omega arith
 
   -- released now
@@ -175,7 +169,7 @@ module _ (t : ℕ) (signals : List ℕ) (now : List Event) (i : ℕ) (k : Task) 
     released = omega arith;
     inTime = λ l. omega arith;
     offset = λ p. leb-true (k .offset) t (and-left (leb (k .offset) t) (eqb ((t - k .offset) % k .period) 0) (d p));
-    multiple = λ p. mod-multiple (k .period) (t - k .offset) (eqb-true _ 0 (and-right (leb (k .offset) t) (eqb ((t - k .offset) % k .period) 0) (d p)));
+    multiple = λ p. multiple-iff (k .period) (t - k .offset) .0 (eqb-true _ 0 (and-right (leb (k .offset) t) (eqb ((t - k .offset) % k .period) 0) (d p)));
     inPeriod = λ p. omega arith;
   }
 

@@ -11,7 +11,7 @@ use Rattle.lists.specs.Lists.{Every}
 use Rattle.lists.proofs.Laws.{length-tab}
 use Rattle.lists.proofs.Tests.{every-at}
 use Rattle.state.specs.State.{nowhere}
-use Rattle.state.specs.Fitting.{SizedTask}
+use Rattle.state.specs.Fitting.{PortSizes}
 use Rattle.state.specs.Fitting as fitting
 use Rattle.state.specs.declared.Status.{Status}
 use Rattle.state.specs.declared.Status.the-variants.{READY, ACTIVE, FINISHED, ERROR}
@@ -58,15 +58,15 @@ every-weaker P Q f [] h = tt
 every-weaker P Q f (x ∷ xs) h = (f x (h .0), every-weaker P Q f xs (h .1))
 
 -- ---- of a state whose lists have their lengths
-module _ (s : State) (sized : fitting.Sized s) where
+module _ (s : State) (sized : fitting.StateSizes s) where
   fours : Every (λ x. length (fourOf x) ≡ 4) (s .tasks)
-  fours = every-weaker SizedTask (λ x. length (fourOf x) ≡ 4) (λ x h. refl) (s .tasks) (sized .ports)
+  fours = every-weaker PortSizes (λ x. length (fourOf x) ≡ 4) (λ x h. refl) (s .tasks) (sized .ports)
 
   eights : Every (λ x. length (x .latched) ≡ maxPorts) (s .tasks)
-  eights = every-weaker SizedTask (λ x. length (x .latched) ≡ maxPorts) (λ x h. h .latched) (s .tasks) (sized .ports)
+  eights = every-weaker PortSizes (λ x. length (x .latched) ≡ maxPorts) (λ x h. h .latched) (s .tasks) (sized .ports)
 
   held-eights : Every (λ x. length (x .held) ≡ maxPorts) (s .tasks)
-  held-eights = every-weaker SizedTask (λ x. length (x .held) ≡ maxPorts) (λ x h. h .held) (s .tasks) (sized .ports)
+  held-eights = every-weaker PortSizes (λ x. length (x .held) ≡ maxPorts) (λ x h. h .held) (s .tasks) (sized .ports)
 
   pub apart-sized : Sized (apart s)
   apart-sized =

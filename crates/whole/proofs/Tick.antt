@@ -1,5 +1,5 @@
 -- The steps together: a tick over the arrays of a state is document 01's tick of that state.
-use Prim.Native.Nat.{ℕ, _+_}
+use Prim.Native.Nat.{ℕ}
 use mathlib.Core.Path.{_≡_, refl, ap, sym, _∙_}
 use mathlib.Core.Bool.{Bool, true, false, cond}
 use mathlib.Core.List.{List, [], _∷_, _++_}
@@ -73,7 +73,7 @@ module _ (plan : Plan) (ws rows : List ℕ) (n : ℕ) (said : Rows plan rows n) 
     pub steps-sized : Sized (stepped t (eventsAt t events) ws rows n a .arrays)
     steps-sized = runs-sized t plan ws rows n said served (v .arrays) sized-v
 
-  module _ (events : List Event) (s : State) (sized : fitting.Sized s) where
+  module _ (events : List Event) (s : State) (sized : fitting.StateSizes s) where
     pub set-sized : Sized (setApart (eventsAt (s .tick) events) s)
     set-sized =
         let z = apart-sized s sized in
@@ -89,7 +89,7 @@ module _ (plan : Plan) (ws rows : List ℕ) (n : ℕ) (said : Rows plan rows n) 
         ∙ ap (ends events (s .tick)) (steps-same (s .tick) events (setApart (eventsAt (s .tick) events) s) set-sized)
 
 -- of an accepted plan and its schedule
-pub tick-accepted : (bytes : List ℕ) → planVerdict bytes .number ≡ 0 → (events : List Event) (s : State) → fitting.Sized s
+pub tick-accepted : (bytes : List ℕ) → planVerdict bytes .number ≡ 0 → (events : List Event) (s : State) → fitting.StateSizes s
     → tick (planOf bytes) events s
     ≡ ends events (s .tick)
     (landed []
