@@ -64,8 +64,11 @@ fn check_case(answer: Answer) -> bool {
 
 // Entry 3: number and place, then the words of the part handed back.
 fn body_case(plan: &[u8], task: u32) -> bool {
-    print_answer(plan_body::body_answer(plan, task));
-    print_words(plan_body::task_body(plan, task));
+    let mut told = [0u32; 2];
+    let part = plan_body::task_body(plan, task, &mut told);
+    print(b"", told[0]);
+    print(b" ", told[1]);
+    print_words(part);
     end_line()
 }
 

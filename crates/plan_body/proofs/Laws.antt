@@ -14,7 +14,11 @@ use Rattle.answers.proofs.Laws.{broken-append}
 use Rattle.plan.specs.File.{taskCount, startOf, lengthOf}
 use Rattle.plan.specs.Rules.{planRules, planVerdict}
 use Rattle.plan.proofs.Laws.{plan-numbered}
-use Rattle.plan_body.specs.Body.{readerVerdict}
+use Rattle.plan_body.specs.Body.{readerVerdict, pairOf}
+
+-- number and place of an answer's verdict make its pair
+pub pair-told : {v w : Verdict} (number place : ℕ) → number ≡ v .number → place ≡ v .place → v ≡ w → (number ∷ place ∷ []) ≡ pairOf w
+pair-told number place n p e = rw (n, p, e)
 
 module _ (bytes : List ℕ) (i : ℕ) where
   reader-first : readerVerdict bytes i ≡ orElse (planVerdict bytes) (cond (ltb i (taskCount (wordsOf bytes))) (verdict 0 0) (verdict 26 0))

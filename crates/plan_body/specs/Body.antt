@@ -35,3 +35,12 @@ bodySpan bytes i =
 pub record PartOf (file part : RefT (List ℕ)) (s : Span) : Type 0 where
   pub stands : ptr part ≡ (ptr file .0, s .start + ptr file .1)
   pub holds : now part ≡ take (s .size) (drop (s .start) (now file))
+
+-- number and place as they stand in a pair
+abbrev pub pairOf : Verdict → List ℕ
+pairOf v = v .number ∷ v .place ∷ []
+
+-- what the reader hands back for task i: its part of the file, and the pair of number and place
+pub record Handed (file : RefT (List ℕ)) (i : ℕ) (part : RefT (List ℕ)) (told : List ℕ) : Type 0 where
+  pub body : PartOf file part (bodySpan (now file) i)
+  pub said : told ≡ pairOf (readerVerdict (now file) i)
