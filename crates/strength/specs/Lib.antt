@@ -1,1 +1,3 @@
 pub mod Strength
+pub mod Once
+pub mod Useless

@@ -1,5 +1,5 @@
 -- Document 01, 'Strength of the contracts': kernels, whatever they do, and the useless ones that the contracts shut out.
-use Prim.Native.Nat.{ℕ, suc}
+use Prim.Native.Nat.{ℕ, suc, _≤_}
 use mathlib.Core.Path.{_≡_}
 use mathlib.Core.Logic.{_≢_}
 use mathlib.Core.Bool.{Bool, true, false}
@@ -11,7 +11,7 @@ use Rattle.state.specs.declared.State.{State}
 use Rattle.kernel.specs.Call.{startState, Starts, Runs}
 use Rattle.kernel.specs.declared.Started.{Started}
 use Rattle.kernel.specs.declared.Outcome.{Outcome}
-use Rattle.marked.specs.Marked.{traceWords, Marked, p1, p2, p6}
+use Rattle.marked.specs.Marked.{Marked, p1, p2, p6}
 
 -- ---- the examples that tell them apart
 -- "(P1) the sample"
@@ -22,9 +22,13 @@ one = p1
 abbrev pub other : Marked
 other = p6
 
--- a run of an example from the fresh state on, with a trace as long as the program's, that meets the contract of the entry
+-- room for the seven records, of five words each, that either has in 12 ticks
+abbrev pub roomNeeded : ℕ
+roomNeeded = 35
+
+-- a run of an example from the fresh state on, with any trace that has this room, that meets the contract of the entry
 pub record RunsFresh (m : Marked) (n : ℕ) (lent left : List ℕ) (r : Outcome) : Type 0 where
-  pub size : length lent ≡ traceWords
+  pub room : roomNeeded ≤ length lent
   pub runs : Runs (m .plan) (m .events) (startState (m .plan)) n lent left r
 
 -- "counts of ticks or records": what an outcome says
