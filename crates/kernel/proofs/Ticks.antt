@@ -24,14 +24,14 @@ use Rattle.whole.proofs.Schedule.{rows-of}
 use Rattle.whole.proofs.Events.{ends-next, events-between}
 use Rattle.whole.proofs.Running.{served-by}
 use Rattle.whole.proofs.Tick.{stepped, set-length, steps-same, steps-sized}
-use Rattle.kernel.specs.Call.{Ran, stopped, onward, runRoom}
+use Rattle.kernel.specs.Call.{CallResult, stopped, onward, runRoom}
 
 -- the state that the arrays hold
 abbrev pub stateOf : ℕ → ℕ → Arrays → State
 stateOf t place a = record { tick = t; place = place; signals = a .signals; tasks = whole a }
 
 -- what a run over the arrays from tick t on comes to
-abbrev pub ranOf : ℕ → Went → Ran
+abbrev pub ranOf : ℕ → Went → CallResult
 ranOf t w = record {
   verdict = cond (w .full) (verdict 14 0) (verdict 0 0);
   ticks = w .ticks;
@@ -40,7 +40,7 @@ ranOf t w = record {
 }
 
 -- one tick before a run, where its records fit
-join : (b : Bool) (t p : ℕ) (a : Arrays) (u : Step) (s : State) (r : Ran) (w : Went) → r ≡ ranOf (t + 1) w
+join : (b : Bool) (t p : ℕ) (a : Arrays) (u : Step) (s : State) (r : CallResult) (w : Went) → r ≡ ranOf (t + 1) w
     → cond b (onward (record { state = s; entries = u .entries }) r) (stopped (verdict 14 0) (stateOf t p a)) ≡ ranOf t (cond b (further u w) (halted true p a))
 join true t p a u s r w e =
     let q : t + suc (w .ticks) ≡ t + 1 + w .ticks = omega arith in

@@ -39,22 +39,22 @@ abbrev pub callVerdict : List ℕ → List ℕ → State → ℕ → Verdict
 callVerdict planBytes eventBytes s asked = firstBroken (callRules planBytes eventBytes s asked)
 
 -- what a run comes to
-pub record Ran : Type 0 where
+pub record CallResult : Type 0 where
   pub verdict : Verdict
   pub ticks : ℕ
   pub state : State
   pub entries : List Entry
 
-abbrev pub stopped : Verdict → State → Ran
+abbrev pub stopped : Verdict → State → CallResult
 stopped v s = record { verdict = v; ticks = 0; state = s; entries = [] }
 
 -- one tick before a run
-abbrev pub onward : Ticked → Ran → Ran
+abbrev pub onward : Ticked → CallResult → CallResult
 onward u r = record { verdict = r .verdict; ticks = suc (r .ticks); state = r .state; entries = u .entries ++ r .entries }
 
 -- "A tick is run only if all its records fit": room is the number of words that are left in the trace.
 -- 0: "accepted, or all asked ticks run". 14: "trace full before the asked ticks were run"; the ticks already run stand
-unfoldable pub runRoom : (State → Ticked) → ℕ → ℕ → State → Ran
+unfoldable pub runRoom : (State → Ticked) → ℕ → ℕ → State → CallResult
 runRoom step room zero s = stopped (verdict 0 0) s
 runRoom step room (suc n) s =
     let u = step s in
@@ -62,7 +62,7 @@ runRoom step room (suc n) s =
     cond (leb (5 * length (u .entries)) room) (onward u r) (stopped (verdict 14 0) s)
 
 -- "1..13 return the given state, 0 ticks, 0 records, trace untouched."
-abbrev pub call : List ℕ → List ℕ → State → ℕ → ℕ → Ran
+abbrev pub call : List ℕ → List ℕ → State → ℕ → ℕ → CallResult
 call planBytes eventBytes s asked room =
     let v = callVerdict planBytes eventBytes s asked in
     cond (eqb (v .number) 0) (runRoom (tick (planOf planBytes) (eventsOf eventBytes)) room asked s) (stopped v s)

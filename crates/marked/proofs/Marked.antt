@@ -8,7 +8,7 @@ use Rattle.lists.specs.Lists.{Every}
 use Rattle.answers.specs.Answers.{said}
 use Rattle.trace.specs.Trace.{traceAfter}
 use Rattle.trace.proofs.Laws.{records-laid}
-use Rattle.kernel.specs.Call.{startState, Ran, call}
+use Rattle.kernel.specs.Call.{startState, CallResult, call}
 use Rattle.kernel.specs.declared.Outcome.{Outcome}
 use Rattle.marked.specs.Marked.{runLines, outcomeLines, decimal, spaced, lineTexts, sampleLines, Marked, Prints, EntriesPrint, p1, p4, marked, ownAmong, ownLines}
 use Rattle.marked.specs.Theorems.{EachMarkedExamplePrintsItsLines, TheMarkedExamplesAreP1ToP11, P4PrintsEachTasksLinesAsP1Does}
@@ -39,7 +39,7 @@ p4-own i = ap (ownLines i) (marked-prints .1 .1 .1 .0) ∙ own-lines i ∙ sym (
 
 -- ---- the same of whatever meets the contracts of the entries
 -- an outcome that is a run prints the run's lines
-outcome-prints : (ran : Ran) (lent left : List ℕ) (r : Outcome) → said (r .answer) ≡ ran .verdict → r .ticks ≡ ran .ticks
+outcome-prints : (ran : CallResult) (lent left : List ℕ) (r : Outcome) → said (r .answer) ≡ ran .verdict → r .ticks ≡ ran .ticks
     → r .records ≡ length (ran .entries) → left ≡ traceAfter (ran .entries) lent → outcomeLines r left ≡ runLines ran
 outcome-prints ran lent left r answers ticks records trace = rw (answers, ticks, records, trace, records-laid (ran .entries) _)
 

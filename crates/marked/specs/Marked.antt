@@ -12,7 +12,7 @@ use Rattle.plan.specs.File.{Transition, Action, Task, Plan}
 use Rattle.events.specs.Events.{Event}
 use Rattle.trace.specs.Trace.{recordsIn}
 use Rattle.trace.specs.declared.Entry.{Entry}
-use Rattle.kernel.specs.Call.{startState, Starts, Ran, call, Runs}
+use Rattle.kernel.specs.Call.{startState, Starts, CallResult, call, Runs}
 use Rattle.kernel.specs.declared.Started.{Started}
 use Rattle.kernel.specs.declared.Outcome.{Outcome}
 
@@ -22,7 +22,7 @@ abbrev pub traceWords : ℕ
 traceWords = 15000
 
 -- what its run comes to, from the ticks asked, the plan's bytes and the events' bytes
-abbrev pub programRun : ℕ → List ℕ → List ℕ → Ran
+abbrev pub programRun : ℕ → List ℕ → List ℕ → CallResult
 programRun ticks planBytes eventBytes = call planBytes eventBytes (startState planBytes) ticks traceWords
 
 -- "a line per record: its five words"
@@ -30,7 +30,7 @@ abbrev pub recordLine : Entry → List ℕ
 recordLine e = e .instant ∷ e .kind ∷ e .task ∷ e .signal ∷ e .value ∷ []
 
 -- "ticks run and the number returned, then a line per record"
-abbrev pub runLines : Ran → List (List ℕ)
+abbrev pub runLines : CallResult → List (List ℕ)
 runLines r = (r .ticks ∷ r .verdict .number ∷ []) ∷ map recordLine (r .entries)
 
 -- the numbers of each printed line

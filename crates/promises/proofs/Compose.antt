@@ -18,7 +18,7 @@ use Rattle.state.specs.declared.State.{State}
 use Rattle.state.proofs.Fitting.{fits-exactly}
 use Rattle.tick.specs.Tick.{Ticked, tick}
 use Rattle.tick.proofs.View.{next-tick}
-use Rattle.kernel.specs.Call.{callVerdict, Ran, stopped, onward, runRoom, call}
+use Rattle.kernel.specs.Call.{callVerdict, CallResult, stopped, onward, runRoom, call}
 use Rattle.kernel.proofs.Verdict.{state-decides}
 use Rattle.kernel.proofs.Ready.{events-good, plan-good, fitting, may-run}
 use Rattle.zero.specs.Zero.{ticks, Called, recordsOf}
@@ -29,7 +29,7 @@ use Rattle.promises.specs.Theorems.{RunsCompose}
 
 -- ---- a run within a trace
 -- all n ticks, and their records
-abbrev allOf : (State → Ticked) → ℕ → State → Ran
+abbrev allOf : (State → Ticked) → ℕ → State → CallResult
 allOf step n s = record { verdict = verdict 0 0; ticks = n; state = ticks step n s .state; entries = ticks step n s .entries }
 
 -- the records of n ticks fit exactly when number 0 is given
@@ -39,7 +39,7 @@ room-zero step room zero s z = omega arith
 room-zero step room (suc n) s z =
     go (leb (5 * length (step s .entries)) room) refl z (room-zero step (room - 5 * length (step s .entries)) n (step s .state))
   where
-    r : Ran
+    r : CallResult
     r = runRoom step (room - 5 * length (step s .entries)) n (step s .state)
 
     rest : List Entry
@@ -109,15 +109,15 @@ module _ (planBytes eventBytes : List ℕ) where
 
     -- as many as were asked
     pub called-ticks : AllRun c → c .outcome .ticks ≡ c .asked
-    called-ticks z = runs .ticks ∙ ap (λ (r : Ran). r .ticks) (called-is z)
+    called-ticks z = runs .ticks ∙ ap (λ (r : CallResult). r .ticks) (called-is z)
 
     -- as many records
     pub called-count : AllRun c → c .outcome .records ≡ length (ticks step (c .asked) s .entries)
-    called-count z = runs .records ∙ ap (λ (r : Ran). length (r .entries)) (called-is z)
+    called-count z = runs .records ∙ ap (λ (r : CallResult). length (r .entries)) (called-is z)
 
     -- the state after them
     pub called-state : AllRun c → c .outcome .state ≡ ticks step (c .asked) s .state
-    called-state z = runs .state ∙ ap (λ (r : Ran). r .state) (called-is z)
+    called-state z = runs .state ∙ ap (λ (r : CallResult). r .state) (called-is z)
 
     -- and their records
     pub called-records : AllRun c → recordsOf c ≡ ticks step (c .asked) s .entries
@@ -162,7 +162,7 @@ module _ (planBytes eventBytes : List ℕ) where
 
     -- and its answer is 0
     one-zero : AllRun one
-    one-zero = ap (λ (v : Verdict). v .number) (runs .answer ∙ ap (λ (r : Ran). r .verdict) one-is)
+    one-zero = ap (λ (v : Verdict). v .number) (runs .answer ∙ ap (λ (r : CallResult). r .verdict) one-is)
 
     -- so the one call gave what the two gave
     composed : Composed first second one

@@ -20,7 +20,7 @@ use Rattle.state.specs.declared.State.{State}
 use Rattle.state.proofs.Fitting.{fits-exactly}
 use Rattle.state.proofs.Fresh.{fresh-fits}
 use Rattle.tick.specs.Tick.{Ticked, tick}
-use Rattle.kernel.specs.Call.{callVerdict, Ran, stopped, runRoom, call}
+use Rattle.kernel.specs.Call.{callVerdict, CallResult, stopped, runRoom, call}
 use Rattle.kernel.proofs.Verdict.{check-decides, state-decides}
 use Rattle.kernel.proofs.Ready.{events-good, plan-good, fitting, may-run}
 use Rattle.zero.specs.Zero.{ticks, Called, lastState}
@@ -126,7 +126,7 @@ module _ (planBytes eventBytes : List ℕ) (s : State) (first second one : Calle
       let soon = in-time in
       ap (λ (v : Verdict). v .number)
       (runs₁ .answer
-      ∙ ap (λ (r : Ran). r .verdict) (call-all planBytes eventBytes s (first .asked) (length (first .lent)) (verdict-zero planBytes eventBytes s (one .asked) (first .asked) zero-one (omega arith)) (omega arith)))
+      ∙ ap (λ (r : CallResult). r .verdict) (call-all planBytes eventBytes s (first .asked) (length (first .lent)) (verdict-zero planBytes eventBytes s (one .asked) (first .asked) zero-one (omega arith)) (omega arith)))
 
   -- the state between them is the one reached
   between : first .outcome .state ≡ ticks step (first .asked) s .state
@@ -143,7 +143,7 @@ module _ (planBytes eventBytes : List ℕ) (s : State) (first second one : Calle
       let same = ap (λ (x : State). length (ticks step (second .asked) x .entries)) between in
       ap (λ (v : Verdict). v .number)
       (runs₂ .answer
-      ∙ ap (λ (r : Ran). r .verdict) (call-all planBytes eventBytes (first .outcome .state) (second .asked) (length (second .lent))
+      ∙ ap (λ (r : CallResult). r .verdict) (call-all planBytes eventBytes (first .outcome .state) (second .asked) (length (second .lent))
       (fitting-zero planBytes eventBytes (plan-good planBytes eventBytes s (one .asked) zero-one) (first .outcome .state) fit (second .asked) (events-good planBytes eventBytes s (one .asked) zero-one) (omega arith)) (omega arith)))
 
 -- both run all their ticks

@@ -19,7 +19,7 @@ use Rattle.trace.specs.Trace.{lines, traceAfter}
 use Rattle.state.specs.State.{fresh, zeroState}
 use Rattle.state.specs.declared.State.{State}
 use Rattle.tick.specs.Tick.{Ticked, tick}
-use Rattle.kernel.specs.Call.{callRules, callVerdict, Ran, stopped, onward, runRoom, call}
+use Rattle.kernel.specs.Call.{callRules, callVerdict, CallResult, stopped, onward, runRoom, call}
 use Rattle.zero.proofs.Calls.{call-state, call-trace, call-records}
 use Rattle.promises.specs.Theorems.{EveryNumberIsOfTheList, ARefusalLeavesEverything, ARefusedStartIsAllZero, AFullTraceStopsBeforeTheTick}
 
@@ -93,7 +93,7 @@ unfolding runRoom
 room-number step room zero s = inl refl
 room-number step room (suc n) s = go (leb (5 * length (step s .entries)) room) (room-number step (room - 5 * length (step s .entries)) n (step s .state))
   where
-    r : Ran
+    r : CallResult
     r = runRoom step (room - 5 * length (step s .entries)) n (step s .state)
 
     go : (b : Bool) → (r .verdict .number ≡ 0) ⊎ (r .verdict .number ≡ 14)
@@ -102,7 +102,7 @@ room-number step room (suc n) s = go (leb (5 * length (step s .entries)) room) (
     go false h = inr refl
 
 -- 14: what is known where it stops
-pub record RoomFull (step : State → Ticked) (room n : ℕ) (r : Ran) : Type 0 where
+pub record RoomFull (step : State → Ticked) (room n : ℕ) (r : CallResult) : Type 0 where
   pub place : r .verdict .place ≡ 0
   pub fewer : r .ticks < n
   pub full : room < 5 * (length (r .entries) + length (step (r .state) .entries))
@@ -112,7 +112,7 @@ unfolding runRoom
 room-full step room zero s e = absurd (omega (arith, e))
 room-full step room (suc n) s e = go (leb (5 * length (step s .entries)) room) refl (room-full step (room - 5 * length (step s .entries)) n (step s .state)) e
   where
-    r : Ran
+    r : CallResult
     r = runRoom step (room - 5 * length (step s .entries)) n (step s .state)
 
     go : (b : Bool) → leb (5 * length (step s .entries)) room ≡ b
@@ -154,7 +154,7 @@ module _ (planBytes eventBytes : List ℕ) (s : State) (asked room : ℕ) where
       go true e = either _ (accepted-number e .1)
       go false e =
           let low = rules-below planBytes eventBytes s asked in
-          let same = ap (λ (r : Ran). r .verdict .number) (refused-call e) in
+          let same = ap (λ (r : CallResult). r .verdict .number) (refused-call e) in
           omega arith
 
   -- 1 to 13: a rule refused it
@@ -178,7 +178,7 @@ module _ (planBytes eventBytes : List ℕ) (s : State) (asked room : ℕ) where
       go true e = accepted-number e .0
       go false e =
           let low = rules-below planBytes eventBytes s asked in
-          let same = ap (λ (r : Ran). r .verdict .number) (refused-call e) in
+          let same = ap (λ (r : CallResult). r .verdict .number) (refused-call e) in
           absurd (omega arith)
 
 -- no records, no word touched
@@ -204,10 +204,10 @@ pub refusal-leaves : ARefusalLeavesEverything
 refusal-leaves planBytes eventBytes s asked lent left r runs h =
     let e = between-refused planBytes eventBytes s asked (length lent) (subst (Between 1 13) (ap (λ (v : Verdict). v .number) (runs .answer)) h) in
     record {
-      state = runs .state ∙ ap (λ (x : Ran). x .state) e;
-      ticks = runs .ticks ∙ ap (λ (x : Ran). x .ticks) e;
-      records = runs .records ∙ ap (λ (x : Ran). length (x .entries)) e;
-      trace = runs .trace ∙ ap (λ (x : Ran). traceAfter (x .entries) lent) e ∙ trace-none lent;
+      state = runs .state ∙ ap (λ (x : CallResult). x .state) e;
+      ticks = runs .ticks ∙ ap (λ (x : CallResult). x .ticks) e;
+      records = runs .records ∙ ap (λ (x : CallResult). length (x .entries)) e;
+      trace = runs .trace ∙ ap (λ (x : CallResult). traceAfter (x .entries) lent) e ∙ trace-none lent;
     }
 
 -- a refused start is all zero
@@ -222,14 +222,14 @@ full-stops planBytes eventBytes s asked lent left r runs full =
     let step = tick (planOf planBytes) (eventsOf eventBytes) in
     let number = sym (ap (λ (v : Verdict). v .number) (runs .answer)) ∙ full in
     let e = full-run planBytes eventBytes s asked (length lent) number in
-    let h = room-full step (length lent) asked s (sym (ap (λ (x : Ran). x .verdict .number) e) ∙ number) in
+    let h = room-full step (length lent) asked s (sym (ap (λ (x : CallResult). x .verdict .number) e) ∙ number) in
     let few = h .fewer in
     let much = h .full in
-    let count = runs .ticks ∙ ap (λ (x : Ran). x .ticks) e in
-    let size = runs .records ∙ ap (λ (x : Ran). length (x .entries)) e in
-    let next = ap (λ (x : State). length (step x .entries)) (runs .state ∙ ap (λ (x : Ran). x .state) e) in
+    let count = runs .ticks ∙ ap (λ (x : CallResult). x .ticks) e in
+    let size = runs .records ∙ ap (λ (x : CallResult). length (x .entries)) e in
+    let next = ap (λ (x : State). length (step x .entries)) (runs .state ∙ ap (λ (x : CallResult). x .state) e) in
     record {
-      place = ap (λ (v : Verdict). v .place) (runs .answer ∙ ap (λ (x : Ran). x .verdict) e) ∙ h .place;
+      place = ap (λ (v : Verdict). v .place) (runs .answer ∙ ap (λ (x : CallResult). x .verdict) e) ∙ h .place;
       fewer = omega arith;
       state = call-state planBytes eventBytes s asked lent left r runs;
       records = call-records planBytes eventBytes s asked lent left r runs;

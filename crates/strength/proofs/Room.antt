@@ -12,7 +12,7 @@ use Rattle.plan.specs.File.{planOf}
 use Rattle.events.specs.Events.{eventsOf}
 use Rattle.state.specs.declared.State.{State}
 use Rattle.tick.specs.Tick.{Ticked, tick}
-use Rattle.kernel.specs.Call.{callVerdict, Ran, stopped, onward, runRoom, call}
+use Rattle.kernel.specs.Call.{callVerdict, CallResult, stopped, onward, runRoom, call}
 
 -- so many ticks with number 0
 run-roomier : (step : State → Ticked) (room longer n : ℕ) (s : State) → room ≤ longer → runRoom step room n s .verdict .number ≡ 0
@@ -23,7 +23,7 @@ run-roomier step room longer (suc n) s more z =
     go (leb (5 * length (step s .entries)) room) refl z
     (run-roomier step (room - 5 * length (step s .entries)) (longer - 5 * length (step s .entries)) n (step s .state) (omega arith))
   where
-    r : ℕ → Ran
+    r : ℕ → CallResult
     r words = runRoom step (words - 5 * length (step s .entries)) n (step s .state)
 
     go : (b : Bool) → leb (5 * length (step s .entries)) room ≡ b → cond b (onward (step s) (r room)) (stopped (verdict 14 0) s) .verdict .number ≡ 0

@@ -11,7 +11,7 @@ use Rattle.answers.specs.Answers.{Verdict, verdict}
 use Rattle.plan.specs.Rules.{planVerdict}
 use Rattle.trace.specs.Trace.{lines, traceAfter, recordsIn}
 use Rattle.state.specs.declared.State.{State}
-use Rattle.kernel.specs.Call.{startState, Ran, call}
+use Rattle.kernel.specs.Call.{startState, CallResult, call}
 use Rattle.kernel.specs.declared.Outcome.{Outcome}
 use Rattle.zero.specs.Zero.{ticks, zeroRun}
 use Rattle.marked.specs.Marked.{Marked}
@@ -27,7 +27,7 @@ use Rattle.strength.proofs.Room.{call-roomier}
 
 -- ---- what is computed
 -- the tick after 8
-abbrev ninth : Ran
+abbrev ninth : CallResult
 ninth = call (one .plan) (one .events) (ran one 8 .state) 1 roomNeeded
 
 -- the plan is accepted; one tick counts as one; signal 3, the first output of task 0, is unchanged after 1 tick and after 8, and
@@ -85,7 +85,7 @@ abbrev AllRun : Marked → ℕ → Type 0
 AllRun m n = ran m n .verdict ≡ verdict 0 0
 
 -- what meets the contract of the run there is that
-met : (m : Marked) (n : ℕ) (lent : List ℕ) → roomNeeded ≤ length lent → AllRun m n → {A : Type 0} (of : Ran → A)
+met : (m : Marked) (n : ℕ) (lent : List ℕ) → roomNeeded ≤ length lent → AllRun m n → {A : Type 0} (of : CallResult → A)
     → of (call (m .plan) (m .events) (startState (m .plan)) n (length lent)) ≡ of (ran m n)
 met m n lent room e of =
     ap of (call-roomier (m .plan) (m .events) (startState (m .plan)) n roomNeeded (length lent) room (ap (λ (v : Verdict). v .number) e))
@@ -191,7 +191,7 @@ ninth-writes lent left lent′ left′ r r′ h room h′ =
     (ap (λ (s : State). getD (s .signals) 3 0) (h′ .state)
     ∙ ap (λ (s : State). getD (call (one .plan) (one .events) s 1 (length lent′) .state .signals) 3 0)
     (h .runs .state ∙ met one 8 lent (h .room) (computed .run-8) (λ x. x .state))
-    ∙ ap (λ (x : Ran). getD (x .state .signals) 3 0)
+    ∙ ap (λ (x : CallResult). getD (x .state .signals) 3 0)
     (call-roomier (one .plan) (one .events) (ran one 8 .state) 1 roomNeeded (length lent′) room (ap (λ (v : Verdict). v .number) (computed .run-ninth)))
     ∙ computed .by-ninth)
     (signal-after 8 lent left r 20 (computed .run-8) (computed .before-write) h) (λ e. omega arith)

@@ -9,7 +9,7 @@ use lib.ListN.{length}
 use Rattle.answers.specs.Answers.{said}
 use Rattle.answers.specs.declared.Answer.the-variants.{Accepted}
 use Rattle.trace.specs.Trace.{traceAfter}
-use Rattle.kernel.specs.Call.{startState, Starts, Ran, call, Runs}
+use Rattle.kernel.specs.Call.{startState, Starts, CallResult, call, Runs}
 use Rattle.kernel.specs.declared.Started.{Started}
 use Rattle.kernel.specs.declared.Outcome.{Outcome}
 use Rattle.zero.specs.Zero.{zeroRun, CallReads}
@@ -19,11 +19,11 @@ use Rattle.strength.specs.Strength.{RefusesEveryPlan, RefusesEveryRun, F
 
 -- ---- the contracts can be met, so that nothing below speaks of nothing
 -- what so many ticks of an example come to, from the fresh state on
-abbrev pub ran : Marked → ℕ → Ran
+abbrev pub ran : Marked → ℕ → CallResult
 ran m n = call (m .plan) (m .events) (startState (m .plan)) n roomNeeded
 
 -- an outcome that says what a run comes to, with number 0
-abbrev pub accepting : Ran → Outcome
+abbrev pub accepting : CallResult → Outcome
 accepting x = record { answer = Accepted; ticks = x .ticks; records = length (x .entries); state = x .state }
 
 -- with it, and the run's records in the trace, the contract of the run is met

@@ -16,7 +16,7 @@ use Rattle.state.specs.declared.State.{State}
 use Rattle.state.specs.Fits.{fits}
 use Rattle.state.proofs.Fitting.{fits-exactly}
 use Rattle.tick.specs.Tick.{Ticked, tick}
-use Rattle.kernel.specs.Call.{callVerdict, Ran, stopped, onward, runRoom, call, Runs}
+use Rattle.kernel.specs.Call.{callVerdict, CallResult, stopped, onward, runRoom, call, Runs}
 use Rattle.kernel.specs.declared.Outcome.{Outcome}
 use Rattle.kernel.proofs.Verdict.{state-decides}
 use Rattle.kernel.proofs.Ready.{events-good, plan-good, fitting, may-run}
@@ -28,7 +28,7 @@ unfolding runRoom
 room-most step room zero s = omega arith
 room-most step room (suc n) s = go (leb (5 * length (step s .entries)) room) (room-most step (room - 5 * length (step s .entries)) n (step s .state))
   where
-    r : Ran
+    r : CallResult
     r = runRoom step (room - 5 * length (step s .entries)) n (step s .state)
 
     go : (b : Bool) → r .ticks ≤ n → cond b (onward (step s) r) (stopped (verdict 14 0) s) .ticks ≤ suc n
@@ -43,7 +43,7 @@ room-fewer step room zero (suc k) s h = absurd (not-suc-le-zero h)
 room-fewer step room (suc n) (suc k) s h =
     go (leb (5 * length (step s .entries)) room) (λ l. room-fewer step (room - 5 * length (step s .entries)) n k (step s .state) l) h
   where
-    r : ℕ → Ran
+    r : ℕ → CallResult
     r m = runRoom step (room - 5 * length (step s .entries)) m (step s .state)
 
     go : (b : Bool) → (k ≤ r n .ticks → r k .ticks ≡ k) → suc k ≤ cond b (onward (step s) (r n)) (stopped (verdict 14 0) s) .ticks

@@ -16,14 +16,14 @@ use Rattle.trace.proofs.Laws.{records-laid}
 use Rattle.state.specs.State.{fresh, zeroState}
 use Rattle.state.specs.declared.State.{State}
 use Rattle.tick.specs.Tick.{Ticked, tick}
-use Rattle.kernel.specs.Call.{Starts, callVerdict, Ran, stopped, onward, runRoom, call, Runs}
+use Rattle.kernel.specs.Call.{Starts, callVerdict, CallResult, stopped, onward, runRoom, call, Runs}
 use Rattle.kernel.specs.declared.Started.{Started}
 use Rattle.kernel.specs.declared.Outcome.{Outcome}
 use Rattle.zero.specs.Zero.{ticks, Called, recordsOf, InTurn, ticksOf, allRecords, lastState}
 use Rattle.zero.proofs.Ticks.{ticks-state, ticks-entries}
 
 -- ---- a run, up to the tick whose records do not fit
-record Ticking (step : State → Ticked) (s : State) (r : Ran) : Type 0 where
+record Ticking (step : State → Ticked) (s : State) (r : CallResult) : Type 0 where
   state : r .state ≡ ticks step (r .ticks) s .state
   entries : r .entries ≡ ticks step (r .ticks) s .entries
 
@@ -33,7 +33,7 @@ unfolding runRoom ticks
 room-ticks step room zero s = record { state = refl; entries = refl }
 room-ticks step room (suc n) s = go (leb (5 * length (step s .entries)) room) (room-ticks step (room - 5 * length (step s .entries)) n (step s .state))
   where
-    r : Ran
+    r : CallResult
     r = runRoom step (room - 5 * length (step s .entries)) n (step s .state)
 
     go : (b : Bool) → Ticking step (step s .state) r → Ticking step s (cond b (onward (step s) r) (stopped (verdict 14 0) s))
@@ -58,7 +58,7 @@ module _ (planBytes eventBytes : List ℕ) where
 
   -- ---- one call
   module _ (s : State) (asked : ℕ) (lent left : List ℕ) (r : Outcome) (runs : Runs planBytes eventBytes s asked lent left r) where
-    abbrev ran : Ran
+    abbrev ran : CallResult
     ran = call planBytes eventBytes s asked (length lent)
 
     -- the state that it returned

@@ -16,7 +16,7 @@ use Rattle.events.proofs.Acceptance.{accepted-exactly}
 use Rattle.state.specs.declared.State.{State}
 use Rattle.tick.specs.Tick.{Ticked, tick}
 use Rattle.tick.proofs.View.{next-tick}
-use Rattle.kernel.specs.Call.{callVerdict, Ran, stopped, onward, runRoom, call}
+use Rattle.kernel.specs.Call.{callVerdict, CallResult, stopped, onward, runRoom, call}
 use Rattle.kernel.proofs.Ready.{events-good, may-run}
 use Rattle.zero.specs.Zero.{Called, InTurn, lastState}
 
@@ -33,7 +33,7 @@ module _ (planBytes eventBytes : List ℕ) where
         go (leb (5 * length (step s .entries)) room)
         (room-keeps list (room - 5 * length (step s .entries)) n (step s .state) (let next = next-tick (planOf planBytes) (eventsOf eventBytes) s in omega arith) (keeps list s (omega arith) p))
       where
-        r : Ran
+        r : CallResult
         r = runRoom step (room - 5 * length (step s .entries)) n (step s .state)
 
         go : (b : Bool) → P (r .state) → P (cond b (onward (step s) r) (stopped (verdict 14 0) s) .state)

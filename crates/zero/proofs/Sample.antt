@@ -11,7 +11,7 @@ use Rattle.plan.specs.File.{planOf}
 use Rattle.trace.specs.Trace.{traceAfter}
 use Rattle.state.specs.State.{fresh}
 use Rattle.state.specs.declared.State.{State}
-use Rattle.kernel.specs.Call.{Runs, call, Ran}
+use Rattle.kernel.specs.Call.{Runs, call, CallResult}
 use Rattle.kernel.specs.declared.Started.{Started}
 use Rattle.kernel.proofs.Computing.{computing-kernel}
 use Rattle.zero.specs.Zero.{ticks, Called, ticksOf, allRecords, lastState}
@@ -72,7 +72,7 @@ abbrev pub room : ℕ → List ℕ
 room words = replicate words 0
 
 -- what a call comes to
-abbrev pub ran : List ℕ → List ℕ → State → ℕ → ℕ → Ran
+abbrev pub ran : List ℕ → List ℕ → State → ℕ → ℕ → CallResult
 ran bytes events s n words = call bytes events s n (length (room words))
 
 -- that call, with its answer
