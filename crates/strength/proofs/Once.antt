@@ -18,9 +18,13 @@ result-once A v r r′ e e′ = e ∙ sym e′
 pub answer-once : OneAnswerMeetsAVerdict
 answer-once v r r′ e e′ = said-once r r′ (result-once _ v (said r) (said r′) e e′)
 
--- place and bytes of the part are equations
+-- place and bytes of the part are equations, and so is the pair
 pub part-once : OnePartMeetsTheBodyReadersContract
-part-once file part part′ s h h′ = (result-once _ _ _ _ (h .stands) (h′ .stands), result-once _ _ _ _ (h .holds) (h′ .holds))
+part-once file i part part′ told told′ h h′ = (
+  result-once _ _ _ _ (h .body .stands) (h′ .body .stands),
+  result-once _ _ _ _ (h .body .holds) (h′ .body .holds),
+  result-once _ _ _ _ (h .said) (h′ .said),
+)
 
 -- two answers of a fresh start with the same fields
 started-same : (r r′ : Started) → r .answer ≡ r′ .answer → r .state ≡ r′ .state → r ≡ r′

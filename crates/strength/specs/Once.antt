@@ -6,7 +6,7 @@ use mathlib.Core.List.{List}
 use denote.Ref.{RefT, ptr, now}
 use Rattle.answers.specs.Answers.{Verdict, said}
 use Rattle.answers.specs.declared.Answer.{Answer}
-use Rattle.plan_body.specs.Body.{Span, PartOf}
+use Rattle.plan_body.specs.Body.{Handed}
 use Rattle.state.specs.declared.State.{State}
 use Rattle.kernel.specs.Call.{Starts, Runs}
 use Rattle.kernel.specs.declared.Started.{Started}
@@ -16,16 +16,16 @@ use Rattle.kernel.specs.declared.Outcome.{Outcome}
 abbrev pub OneResultMeetsAnEquation : Type 1
 OneResultMeetsAnEquation = (A : Type 0) (v r r′ : A) → r ≡ v → r′ ≡ v → r ≡ r′
 
--- a contract `said r ≡ v`: one answer meets it. So of plan_check's `check`, plan_task's `task_answer`, event_check's `check` and
--- plan_body's `body_answer`, whatever they are given
+-- a contract `said r ≡ v`: one answer meets it. So of plan_check's `check`, plan_task's `task_answer` and event_check's `check`,
+-- whatever they are given
 abbrev pub OneAnswerMeetsAVerdict : Type 0
 OneAnswerMeetsAVerdict = (v : Verdict) (r r′ : Answer) → said r ≡ v → said r′ ≡ v → r ≡ r′
 
--- the body reader: of a file and a span one part, the same bytes at the same place. So of plan_body's `task_body`, whose span is
--- that of the plan and the task
+-- the body reader: of a file and a task one part, the same bytes at the same place, and one pair of number and place
 abbrev pub OnePartMeetsTheBodyReadersContract : Type 0
 OnePartMeetsTheBodyReadersContract =
-    (file part part′ : RefT (List ℕ)) (s : Span) → PartOf file part s → PartOf file part′ s → (ptr part ≡ ptr part′) × (now part ≡ now part′)
+    (file : RefT (List ℕ)) (i : ℕ) (part part′ : RefT (List ℕ)) (told told′ : List ℕ) → Handed file i part told → Handed file i part′ told′
+    → (ptr part ≡ ptr part′) × (now part ≡ now part′) × (told ≡ told′)
 
 -- the fresh start: one answer and one state for a plan, refused ones too
 abbrev pub OneAnswerMeetsTheFreshStartsContract : Type 0
