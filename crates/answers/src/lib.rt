@@ -3,7 +3,7 @@ ghost use Rattle.std.specs.Prelude.{◌≡◌, not, eqb};
 ghost use Rattle.answers.specs.Answers.{said};
 
 // One case for each number, with the place that goes with it. `said` (specs/Answers.antt) sets out number and place of each.
-#[derive(Drop)]
+#[derive(Clone, Copy)]
 pub enum Answer {
     Accepted,
     PlanSize,

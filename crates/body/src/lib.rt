@@ -10,7 +10,7 @@ use arrays::{get, put};
 const PORTS: usize = limits::PORTS as usize;
 
 // What a body leaves; the definitions speak of it.
-#[derive(Drop)]
+#[derive(Clone, Copy)]
 pub struct Result {
     pub machine: u32,
     pub held: [u32; PORTS],

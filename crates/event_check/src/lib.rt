@@ -65,7 +65,7 @@ fn driven_tasks(plan: &[u8], tasks: u32) -> u64
 }
 
 // What rule 11 asks of a plan, read once for all events: how many tasks and signals it has, the signals that tasks write and the event-driven tasks.
-#[derive(Drop)]
+#[derive(Clone, Copy)]
 struct EventTargets {
     tasks: u32,
     signals: u32,

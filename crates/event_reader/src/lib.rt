@@ -5,14 +5,14 @@ ghost use Rattle.event_reader.specs.Reader.{read_at, place_after};
 
 use words::word;
 
-#[derive(Drop)]
+#[derive(Clone, Copy)]
 pub struct EventReader<'a> {
     pub events: &'a [u8],
     pub place: usize,
 }
 
 // The record where the reader stands and the place it moves on to; or no whole record is left, and it stays.
-#[derive(Drop)]
+#[derive(Clone, Copy)]
 pub enum Reading {
     Record {
         instant: u32,

@@ -9,14 +9,14 @@ use state::State;
 use step::Clock;
 
 // What a fresh start answers.
-#[derive(Drop)]
+#[derive(Clone, Copy)]
 pub struct Started {
     pub answer: Answer,
     pub state: State,
 }
 
 // What a run answers.
-#[derive(Drop)]
+#[derive(Clone, Copy)]
 pub struct Outcome {
     pub answer: Answer,
     pub ticks: u32,
@@ -133,7 +133,7 @@ pub fn run(plan: &[u8], events: &[u8], state: State, asked: u32, trace: &mut [u3
 }
 
 // The kernel's state as it goes from tick to tick.
-#[derive(Drop)]
+#[derive(Clone, Copy)]
 pub struct Kernel {
     pub state: State,
 }

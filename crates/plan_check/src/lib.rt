@@ -85,7 +85,7 @@ fn all_tasks(bytes: &[u8], signals: u32, tasks: u32) -> Answer
 }
 
 // Whether numbers are new, and the marks with them.
-#[derive(Drop)]
+#[derive(Clone, Copy)]
 pub struct Marked {
     pub new: bool,
     pub marks: u64,

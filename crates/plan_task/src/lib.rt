@@ -129,7 +129,7 @@ fn transitions_hold(part: &[u8], first: usize, count: u32, inputs: u32) -> bool
 }
 
 // What rule 6 asks of an action's positions: the number of inputs and of outputs, and the lowest output that it may change.
-#[derive(Drop)]
+#[derive(Clone, Copy)]
 struct Ports {
     inputs: u32,
     outputs: u32,

@@ -16,7 +16,7 @@ use step::Clock;
 const TASKS: usize = limits::TASKS as usize;
 
 // How a run of ticks ended: the clock after it, the ticks run, and whether the trace was too full for the next one.
-#[derive(Drop)]
+#[derive(Clone, Copy)]
 pub struct Ran {
     pub clock: Clock,
     pub ticks: u32,

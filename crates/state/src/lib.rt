@@ -7,7 +7,7 @@ const SIGNALS: usize = limits::SIGNALS as usize;
 const TASKS: usize = limits::TASKS as usize;
 
 // "READY, ACTIVE, FINISHED, ERROR."
-#[derive(Drop)]
+#[derive(Clone, Copy)]
 pub enum Status {
     READY,
     ACTIVE,
@@ -16,7 +16,7 @@ pub enum Status {
 }
 
 // "Each task also has: remaining ticks, release instant, machine state, 8 latched inputs, 8 held outputs."
-#[derive(Drop)]
+#[derive(Clone, Copy)]
 pub struct TaskState {
     pub status: Status,
     pub remaining: u32,
@@ -26,7 +26,7 @@ pub struct TaskState {
     pub held: [u32; PORTS],
 }
 
-#[derive(Drop)]
+#[derive(Clone, Copy)]
 pub struct State {
     pub tick: u32,
     pub place: u32,

@@ -9,7 +9,7 @@ use step_releases::Instant;
 
 // What a run keeps beside the arrays: the next tick's number, the event place, and the word of the trace at which the next
 // record stands.
-#[derive(Drop)]
+#[derive(Clone, Copy)]
 pub struct Clock {
     pub tick: u32,
     pub place: u32,

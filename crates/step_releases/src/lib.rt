@@ -63,7 +63,7 @@ fn latched_at(rows: &[u32], row: u32, signals: &[u32], p: u32) -> u32
 }
 
 // The instant of a tick, and the places between which its events stand.
-#[derive(Drop)]
+#[derive(Clone, Copy)]
 pub struct Instant {
     pub t: u32,
     pub first: u32,

@@ -3,7 +3,7 @@ ghost use Rattle.std.specs.Prelude.{◌≡◌};
 ghost use Rattle.trace.specs.Trace.{put_at};
 
 // "Records of five words: instant, kind, task, signal, value"
-#[derive(Drop)]
+#[derive(Clone, Copy)]
 pub struct Entry {
     pub instant: u32,
     pub kind: u32,

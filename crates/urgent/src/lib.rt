@@ -11,7 +11,7 @@ const RECORDS: usize = PAIR as usize;
 pub const NONE: u32 = limits::TOP_VALUE as u32;
 
 // What the choice reads of a task: its status as a number, and its rank among all: the smaller, the more urgent.
-#[derive(Drop)]
+#[derive(Clone, Copy)]
 pub struct TaskRecord {
     pub status: u32,
     pub rank: u32,

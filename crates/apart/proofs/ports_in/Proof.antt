@@ -21,8 +21,8 @@ loop-again c = (search rules, rw c.get.ensures (fill_more _ _ _ _ _ c.before.loo
 returns : tie.Need-returns invariant-loop decreases-loop
 returns c = fill_done _ _ _ _ _ c.loop-test.false c.before.loop.invariant.1
 
-pub ports-in-spec : {M : Type 1} → statement M
-ports-in-spec =
+pub ports_in_spec : {M : Type 1} → statement M
+ports_in_spec =
     tie.close
     (tie.spec
     invariant-loop

@@ -28,8 +28,8 @@ loop-again c = (
 returns : tie.Need-returns invariant-loop decreases-loop
 returns c = sym (sets_dropped _ _ _ _ c.loop-test.false) ∙ c.before.loop.invariant.2
 
-pub put-all-spec : {M : Type 1} → statement M
-put-all-spec =
+pub put_all_spec : {M : Type 1} → statement M
+put_all_spec =
     tie.close
     (tie.spec
     invariant-loop

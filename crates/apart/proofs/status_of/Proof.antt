@@ -21,5 +21,5 @@ returns-3 c = rw c.match.keys3
 returns-4 : tie.Need-returns-4
 returns-4 c = sym (other-status _ (omega arith))
 
-pub status-of-spec : {M : Type 1} → statement M
-status-of-spec = tie.close (tie.spec returns returns-2 returns-3 returns-4)
+pub status_of_spec : {M : Type 1} → statement M
+status_of_spec = tie.close (tie.spec returns returns-2 returns-3 returns-4)

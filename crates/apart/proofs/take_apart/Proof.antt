@@ -20,25 +20,25 @@ loop-holds c = (search rules, stored_none _ _ _ _ c.before.before.before.require
 loop-again : tie.Need-loop-preserved invariant-loop decreases-loop
 loop-again c = (
   search rules,
-  rw c.before.before.before.before.before.before.put-task.ensures.0 (stored_more _ _ _ _ _ _ (search rules) c.before.before.before.before.before.before.before.before.before.before.before.loop-test.true refl refl c.before.before.before.before.before.before.before.before.before.before.before.before.loop.invariant.1),
-  rw c.before.before.before.before.before.before.put-task.ensures.1.0 (stored_more _ _ _ _ _ _ (search rules) c.before.before.before.before.before.before.before.before.before.before.before.loop-test.true refl c.before.before.before.before.before.before.put-task.ensures.1.1.1.0 c.before.before.before.before.before.before.before.before.before.before.before.before.loop.invariant.2),
-  rw c.before.before.before.before.before.before.put-task.ensures.1.1.0 (stored_more _ _ _ _ _ _ (search rules) c.before.before.before.before.before.before.before.before.before.before.before.loop-test.true refl c.before.before.before.before.before.before.put-task.ensures.1.1.1.1 c.before.before.before.before.before.before.before.before.before.before.before.before.loop.invariant.3),
+  rw c.before.before.before.before.before.before.put_task.ensures.0 (stored_more _ _ _ _ _ _ (search rules) c.before.before.before.before.before.before.before.before.before.before.before.loop-test.true refl refl c.before.before.before.before.before.before.before.before.before.before.before.before.loop.invariant.1),
+  rw c.before.before.before.before.before.before.put_task.ensures.1.0 (stored_more _ _ _ _ _ _ (search rules) c.before.before.before.before.before.before.before.before.before.before.before.loop-test.true refl c.before.before.before.before.before.before.put_task.ensures.1.1.1.0 c.before.before.before.before.before.before.before.before.before.before.before.before.loop.invariant.2),
+  rw c.before.before.before.before.before.before.put_task.ensures.1.1.0 (stored_more _ _ _ _ _ _ (search rules) c.before.before.before.before.before.before.before.before.before.before.before.loop-test.true refl c.before.before.before.before.before.before.put_task.ensures.1.1.1.1 c.before.before.before.before.before.before.before.before.before.before.before.before.loop.invariant.3),
 )
 
-same_length : tie.Need-same-length invariant-loop decreases-loop
+same_length : tie.Need-same_length invariant-loop decreases-loop
 same_length c = c.before.loop.invariant.1.size ∙ sym c.before.before.before.before.before.requires.0
 
-same-length-2 : tie.Need-same-length-2 invariant-loop decreases-loop
+same-length-2 : tie.Need-same_length-2 invariant-loop decreases-loop
 same-length-2 c = c.before.loop.invariant.2.size ∙ sym c.before.before.before.before.before.requires.1
 
-same-length-3 : tie.Need-same-length-3 invariant-loop decreases-loop
+same-length-3 : tie.Need-same_length-3 invariant-loop decreases-loop
 same-length-3 c = c.before.loop.invariant.3.size ∙ sym c.before.before.before.before.before.requires.2
 
 returns : tie.Need-returns invariant-loop decreases-loop
 returns c = (stored_all _ _ _ _ _ (search rules) c.before.loop.invariant.0 c.loop-test.false c.before.loop.invariant.1, (stored_all _ _ _ _ _ (search rules) c.before.loop.invariant.0 c.loop-test.false c.before.loop.invariant.2, stored_all _ _ _ _ _ (search rules) c.before.loop.invariant.0 c.loop-test.false c.before.loop.invariant.3))
 
-pub take-apart-spec : {M : Type 1} → statement M
-take-apart-spec =
+pub take_apart_spec : {M : Type 1} → statement M
+take_apart_spec =
     tie.close
     (tie.spec
     invariant-loop

@@ -19,13 +19,13 @@ loop-holds : tie.Need-loop-init invariant-loop decreases-loop
 loop-holds c = (search rules, fill_none _ _ _ _)
 
 loop-again : tie.Need-loop-preserved invariant-loop decreases-loop
-loop-again c = (search rules, rw c.task-in.ensures (fill_more _ _ _ _ _ c.before.loop-test.true c.before.before.loop.invariant.1))
+loop-again c = (search rules, rw c.task_in.ensures (fill_more _ _ _ _ _ c.before.loop-test.true c.before.before.loop.invariant.1))
 
 returns : tie.Need-returns invariant-loop decreases-loop
 returns c = rw (fill_done _ _ _ _ _ c.loop-test.false c.before.loop.invariant.1)
 
-pub together-spec : {M : Type 1} → statement M
-together-spec =
+pub together_spec : {M : Type 1} → statement M
+together_spec =
     tie.close
     (tie.spec
     invariant-loop

@@ -8,8 +8,8 @@ invariant-loop plan work numbers₀ i₀ numbers i = i ≤ work.calls
 abbrev decreases-loop : tie.decreases-loop
 decreases-loop plan work numbers₀ i₀ numbers i = work.calls - i
 
-pub check-plan-spec : {M : Type 1} → statement M
-check-plan-spec =
+pub check_plan_spec : {M : Type 1} → statement M
+check_plan_spec =
     tie.close
     (tie.spec
     invariant-loop

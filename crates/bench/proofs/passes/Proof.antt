@@ -8,8 +8,8 @@ invariant-loop plan events before work trace₀ begin turns₀ trace turns = len
 abbrev decreases-loop : tie.decreases-loop
 decreases-loop plan events before work trace₀ begin turns₀ trace turns = turns
 
-pub passes-spec : {M : Type 1} → statement M
-passes-spec =
+pub passes_spec : {M : Type 1} → statement M
+passes_spec =
     tie.close
     (tie.spec
     invariant-loop

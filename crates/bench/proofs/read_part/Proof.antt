@@ -5,8 +5,8 @@ use Rattle.bench.proofs.read_part.Tie as tie
 slice-aggregate-read-full : tie.Need-slice-aggregate-read-full
 slice-aggregate-read-full c = simp length-take (omega arith)
 
-pub read-part-spec : {M : Type 1} → statement M
-read-part-spec =
+pub read_part_spec : {M : Type 1} → statement M
+read_part_spec =
     tie.close
     (tie.spec
     (λ c. search rules)

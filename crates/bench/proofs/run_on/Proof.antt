@@ -8,8 +8,8 @@ invariant-loop plan events work trace₀ state₀ numbers₀ records₀ i₀ tra
 abbrev decreases-loop : tie.decreases-loop
 decreases-loop plan events work trace₀ state₀ numbers₀ records₀ i₀ trace state numbers records i = work.calls - i
 
-pub run-on-spec : {M : Type 1} → statement M
-run-on-spec =
+pub run_on_spec : {M : Type 1} → statement M
+run_on_spec =
     tie.close
     (tie.spec
     invariant-loop

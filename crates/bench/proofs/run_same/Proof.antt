@@ -8,8 +8,8 @@ invariant-loop plan events begin work trace₀ numbers₀ records₀ tick₀ i�
 abbrev decreases-loop : tie.decreases-loop
 decreases-loop plan events begin work trace₀ numbers₀ records₀ tick₀ i₀ trace numbers records tick i = work.calls - i
 
-pub run-same-spec : {M : Type 1} → statement M
-run-same-spec =
+pub run_same_spec : {M : Type 1} → statement M
+run_same_spec =
     tie.close
     (tie.spec
     invariant-loop

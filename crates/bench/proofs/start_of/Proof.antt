@@ -5,6 +5,6 @@ use Rattle.bench.proofs.start_of.Tie as tie
 slice-aggregate-result : tie.Need-slice-aggregate-result
 slice-aggregate-result c = simp length-take (omega arith)
 
-pub start-of-spec : {M : Type 1} → statement M
-start-of-spec =
+pub start_of_spec : {M : Type 1} → statement M
+start_of_spec =
     tie.close (tie.spec slice-aggregate-result (λ c. search rules) (λ c. search rules) (λ c. search rules))

@@ -43,7 +43,7 @@ returns-3 c =
       ← read.before.known3.ensures,
       ← read.get.ensures,
       ← sum.before.get2.ensures,
-      ← sum.wrapping-add-u32.ensures,
+      ← sum.wrapping_add_u32.ensures,
     )
     c.before.before.put3.ensures
 
@@ -66,8 +66,8 @@ returns-4 c =
     )
     c.before.before.transfer.ensures
 
-pub act-spec : {M : Type 1} → statement M
-act-spec =
+pub act_spec : {M : Type 1} → statement M
+act_spec =
     tie.close
     (tie.spec
     (λ c. search rules)

@@ -26,7 +26,7 @@ loop-again : tie.Need-loop-preserved invariant-loop decreases-loop
 loop-again c = (
   search rules,
   c.look_at.ensures.1,
-  rw (c.before.before.loop.invariant.2, turn_more _ _ _ _ _ c.before.loop-test.true, c.look_at.ensures.0, c.before.before.before.before.transitions-at.ensures.0),
+  rw (c.before.before.loop.invariant.2, turn_more _ _ _ _ _ c.before.loop-test.true, c.look_at.ensures.0, c.before.before.before.before.transitions_at.ensures.0),
 )
 
 returns : tie.Need-returns invariant-loop decreases-loop

@@ -26,10 +26,10 @@ returns-3 c =
     let latched = same.before.before.before.before.args.latched.now in
     let state = sym same.before.known.ensures ∙ same.if1.false in
     let value = asked.get.ensures ∙ ap (λ i. get_or latched i 0) asked.before.known2.ensures in
-    (rw (eq-eqb _ _ state, ne_eqb _ _ (λ e. fires.if2.false (value ∙ e))) c.sooner-of.ensures.0, search rules)
+    (rw (eq-eqb _ _ state, ne_eqb _ _ (λ e. fires.if2.false (value ∙ e))) c.sooner_of.ensures.0, search rules)
 
-pub look-at-spec : {M : Type 1} → statement M
-look-at-spec =
+pub look_at_spec : {M : Type 1} → statement M
+look_at_spec =
     tie.close
     (tie.spec
     (λ c κs. search rules)

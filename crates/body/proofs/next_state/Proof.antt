@@ -11,5 +11,5 @@ returns-2 : tie.Need-returns-2
 unfolding after
 returns-2 c = rw (ne_eqb c.before.before.before.args.taken 0 c.before.if1.false) c.known.ensures
 
-pub next-state-spec : {M : Type 1} → statement M
-next-state-spec = tie.close (tie.spec (λ c. search rules) (λ c κs. search rules) returns returns-2)
+pub next_state_spec : {M : Type 1} → statement M
+next_state_spec = tie.close (tie.spec (λ c. search rules) (λ c κs. search rules) returns returns-2)

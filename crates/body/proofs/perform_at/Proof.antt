@@ -8,5 +8,5 @@ returns c = rw (eq-eqb _ _ (sym c.before.before.before.before.before.known.ensur
 returns-2 : tie.Need-returns-2
 returns-2 c = rw (← c.before.known.ensures, ne_eqb _ _ c.if1.false)
 
-pub perform-at-spec : {M : Type 1} → statement M
-perform-at-spec = tie.close (tie.spec (λ c κs. search rules) (λ c κs. search rules) (λ c. search rules) returns returns-2)
+pub perform_at_spec : {M : Type 1} → statement M
+perform_at_spec = tie.close (tie.spec (λ c κs. search rules) (λ c κs. search rules) (λ c. search rules) returns returns-2)

@@ -27,24 +27,24 @@ loop-again c =
     let turn = done.before.before in
     let loop = turn.before in (
       search rules,
-      done.perform-at.auto.1.1.1.1.0 ∙ loop.loop.invariant.1,
+      done.perform_at.auto.1.1.1.1.0 ∙ loop.loop.invariant.1,
       rw (
         loop.loop.invariant.2,
         turn_more _ _ _ _ _ turn.loop-test.true,
-        done.perform-at.ensures,
-        loop.before.before.actions-at.ensures.0,
+        done.perform_at.ensures,
+        loop.before.before.actions_at.ensures.0,
       ),
     )
 
-same_length : tie.Need-same-length invariant-loop decreases-loop
+same_length : tie.Need-same_length invariant-loop decreases-loop
 same_length c = c.before.loop.invariant.1
 
 returns : tie.Need-returns invariant-loop decreases-loop
 unfolding task_of
 returns c = rw (← c.before.before.word.ensures, c.before.loop.invariant.2, turn_done _ _ _ _ _ c.loop-test.false)
 
-pub run-actions-spec : {M : Type 1} → statement M
-run-actions-spec =
+pub run_actions_spec : {M : Type 1} → statement M
+run_actions_spec =
     tie.close
     (tie.spec
     invariant-loop

@@ -12,8 +12,8 @@ returns-2 : tie.Need-returns-2
 unfolding body task_of
 returns-2 c = rw (ne_eqb _ _ (λ e. c.before.before.before.before.if1.false (c.before.before.before.before.before.word.ensures ∙ e))) c.before.before.controller.ensures
 
-pub run-lent-spec : {M : Type 1} → statement M
-run-lent-spec =
+pub run_lent_spec : {M : Type 1} → statement M
+run_lent_spec =
     tie.close
     (tie.spec
     (λ c κs. search rules)

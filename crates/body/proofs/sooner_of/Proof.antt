@@ -36,7 +36,7 @@ returns-3 c =
       search rules,
     )
 
-pub sooner-of-spec : {M : Type 1} → statement M
-sooner-of-spec =
+pub sooner_of_spec : {M : Type 1} → statement M
+sooner_of_spec =
     tie.close
     (tie.spec returns (λ c. search rules) (λ c κs. search rules) (λ c. search rules) (λ c κs. search rules) returns-2 returns-3)

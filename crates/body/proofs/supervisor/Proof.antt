@@ -11,16 +11,16 @@ returns c =
     let first = second.before.before.before.before.before in
     let next = first.before.before in
     rw (
-      ran.run-if.ensures,
+      ran.run_if.ensures,
       second.put2.ensures,
       first.put.ensures,
       second.before.bit.ensures,
-      next.next-state.ensures,
+      next.next_state.ensures,
       next.before.choose.ensures.0,
     )
 
-pub supervisor-spec : {M : Type 1} → statement M
-supervisor-spec =
+pub supervisor_spec : {M : Type 1} → statement M
+supervisor_spec =
     tie.close
     (tie.spec
     (λ c κs. search rules)

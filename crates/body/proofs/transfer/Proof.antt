@@ -28,8 +28,8 @@ returns-2 : tie.Need-returns-2
 unfolding move
 returns-2 c = rw (← c.before.before.before.get.ensures, ← c.before.get2.ensures, c.if1.false)
 
-pub transfer-spec : {M : Type 1} → statement M
-transfer-spec =
+pub transfer_spec : {M : Type 1} → statement M
+transfer_spec =
     tie.close
     (tie.spec
     (λ c κs. search rules)

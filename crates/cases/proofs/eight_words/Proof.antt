@@ -10,8 +10,8 @@ invariant-loop words from values₀ i₀ values i = i ≤ max_ports
 abbrev decreases-loop : tie.decreases-loop
 decreases-loop words from values₀ i₀ values i = max_ports - i
 
-pub eight-words-spec : {M : Type 1} → statement M
-eight-words-spec =
+pub eight_words_spec : {M : Type 1} → statement M
+eight_words_spec =
     tie.close
     (tie.spec
     invariant-loop

@@ -10,8 +10,8 @@ invariant-loop words good₀ i₀ good i = i ≤ max_tasks
 abbrev decreases-loop : tie.decreases-loop
 decreases-loop words good₀ i₀ good i = max_tasks - i
 
-pub is-state-spec : {M : Type 1} → statement M
-is-state-spec =
+pub is_state_spec : {M : Type 1} → statement M
+is_state_spec =
     tie.close
     (tie.spec
     invariant-loop

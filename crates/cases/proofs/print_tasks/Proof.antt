@@ -10,8 +10,8 @@ invariant-loop tasks i₀ i = i ≤ max_tasks
 abbrev decreases-loop : tie.decreases-loop
 decreases-loop tasks i₀ i = max_tasks - i
 
-pub print-tasks-spec : {M : Type 1} → statement M
-print-tasks-spec =
+pub print_tasks_spec : {M : Type 1} → statement M
+print_tasks_spec =
     tie.close
     (tie.spec
     invariant-loop

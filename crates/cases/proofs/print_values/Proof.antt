@@ -10,8 +10,8 @@ invariant-loop values i₀ t3 i = i ≤ length values
 abbrev decreases-loop : tie.decreases-loop
 decreases-loop values i₀ t3 i = length values - i
 
-pub print-values-spec : {M : Type 1} → statement M
-print-values-spec =
+pub print_values_spec : {M : Type 1} → statement M
+print_values_spec =
     tie.close
     (tie.spec
     invariant-loop

@@ -9,8 +9,8 @@ invariant-loop part count i₀ t4 i = i ≤ count
 abbrev decreases-loop : tie.decreases-loop
 decreases-loop part count i₀ t4 i = count - i
 
-pub print-words-spec : {M : Type 1} → statement M
-print-words-spec =
+pub print_words_spec : {M : Type 1} → statement M
+print_words_spec =
     tie.close
     (tie.spec
     invariant-loop

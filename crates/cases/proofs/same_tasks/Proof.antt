@@ -10,8 +10,8 @@ invariant-loop left right same₀ i₀ same i = i ≤ max_tasks
 abbrev decreases-loop : tie.decreases-loop
 decreases-loop left right same₀ i₀ same i = max_tasks - i
 
-pub same-tasks-spec : {M : Type 1} → statement M
-same-tasks-spec =
+pub same_tasks_spec : {M : Type 1} → statement M
+same_tasks_spec =
     tie.close
     (tie.spec
     invariant-loop

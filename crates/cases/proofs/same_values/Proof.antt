@@ -10,8 +10,8 @@ invariant-loop left right same₀ i₀ same i = i ≤ length left
 abbrev decreases-loop : tie.decreases-loop
 decreases-loop left right same₀ i₀ same i = length left - i
 
-pub same-values-spec : {M : Type 1} → statement M
-same-values-spec =
+pub same_values_spec : {M : Type 1} → statement M
+same_values_spec =
     tie.close
     (tie.spec
     invariant-loop

@@ -10,8 +10,8 @@ invariant-loop words signals₀ i₀ signals i = i ≤ max_signals
 abbrev decreases-loop : tie.decreases-loop
 decreases-loop words signals₀ i₀ signals i = max_signals - i
 
-pub signals-from-spec : {M : Type 1} → statement M
-signals-from-spec =
+pub signals_from_spec : {M : Type 1} → statement M
+signals_from_spec =
     tie.close
     (tie.spec
     invariant-loop

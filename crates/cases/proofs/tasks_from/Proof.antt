@@ -10,8 +10,8 @@ invariant-loop words tasks₀ i₀ tasks i = i ≤ max_tasks
 abbrev decreases-loop : tie.decreases-loop
 decreases-loop words tasks₀ i₀ tasks i = max_tasks - i
 
-pub tasks-from-spec : {M : Type 1} → statement M
-tasks-from-spec =
+pub tasks_from_spec : {M : Type 1} → statement M
+tasks_from_spec =
     tie.close
     (tie.spec
     invariant-loop

@@ -17,16 +17,16 @@ loop-holds : tie.Need-loop-init invariant-loop decreases-loop
 loop-holds c = let few : min 0 c.before.before.args.count ≡ 0 = omega arith in let all : c.before.before.args.count - 0 ≡ c.before.before.args.count = omega arith in rw (few, all)
 
 returns : tie.Need-returns invariant-loop decreases-loop
-returns c = sym (c.before.before.before.loop.invariant ∙ taken _ _ _ _ c.before.before.loop-test.true c.before.before.before.before.before.before.requires (rw (← c.before.least-of-pair.ensures) c.if1.true) ∙ sym c.before.least-of-pair.ensures)
+returns c = sym (c.before.before.before.loop.invariant ∙ taken _ _ _ _ c.before.before.loop-test.true c.before.before.before.before.before.before.requires (rw (← c.before.least_of_pair.ensures) c.if1.true) ∙ sym c.before.least_of_pair.ensures)
 
 loop-again : tie.Need-loop-preserved invariant-loop decreases-loop
-loop-again c = c.before.before.before.loop.invariant ∙ passed _ _ _ _ c.before.before.loop-test.true c.before.before.before.before.before.before.requires (rw (← c.before.least-of-pair.ensures) c.if1.false)
+loop-again c = c.before.before.before.loop.invariant ∙ passed _ _ _ _ c.before.before.loop-test.true c.before.before.before.before.before.before.requires (rw (← c.before.least_of_pair.ensures) c.if1.false)
 
 returns-2 : tie.Need-returns-2 invariant-loop decreases-loop
 returns-2 c = sym (c.before.loop.invariant ∙ done _ _ _ _ c.loop-test.false)
 
-pub running-row-spec : {M : Type 1} → statement M
-running-row-spec =
+pub running_row_spec : {M : Type 1} → statement M
+running_row_spec =
     tie.close
     (tie.spec
     invariant-loop

@@ -6,8 +6,8 @@ use Rattle.embedding.proofs.shift.Tie as tie
 returns : tie.Need-returns
 returns c = rw (← c.before.before.before.before.before.fresh_start.ensures.state) c.before.before.run.ensures
 
-pub shift-spec : {M : Type 1} → statement M
-shift-spec =
+pub shift_spec : {M : Type 1} → statement M
+shift_spec =
     tie.close
     (tie.spec
     (λ c κs. search rules)

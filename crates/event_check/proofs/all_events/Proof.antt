@@ -29,7 +29,7 @@ returns c =
     rw (
       c.before.before.before.before.loop.invariant.1,
       verdict-more _ _ _ _ _ c.before.before.before.loop-test.true,
-      ← c.before.before.one-event.ensures,
+      ← c.before.before.one_event.ensures,
       ← c.before.accepted.ensures,
       not-true c.before.accepted.result c.if1.true,
     )
@@ -40,7 +40,7 @@ loop-again c = (
   rw (
     c.before.before.before.before.before.loop.invariant.1,
     verdict-more _ _ _ _ _ c.before.before.before.before.loop-test.true,
-    ← c.before.before.before.one-event.ensures,
+    ← c.before.before.before.one_event.ensures,
     ← c.before.before.accepted.ensures,
     not-false c.before.before.accepted.result c.before.if1.false,
     c.known.ensures,
@@ -50,8 +50,8 @@ loop-again c = (
 returns-2 : tie.Need-returns-2 invariant-loop decreases-loop
 returns-2 c = rw (c.before.loop.invariant.1, verdict-done _ _ _ _ _ c.loop-test.false)
 
-pub all-events-spec : {M : Type 1} → statement M
-all-events-spec =
+pub all_events_spec : {M : Type 1} → statement M
+all_events_spec =
     tie.close
     (tie.spec
     invariant-loop

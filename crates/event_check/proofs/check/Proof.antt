@@ -15,10 +15,10 @@ returns c =
 
 returns-2 : tie.Need-returns-2
 returns-2 c =
-    c.list-answer.ensures
+    c.list_answer.ensures
     ∙ sym (list_decides c.before.before.before.before.before.before.args.plan.now c.before.before.before.before.before.before.args.events.now
     (eqb-true _ 0 (asked true c.before.before.accepted.result _ _ c.before.before.accepted.ensures (not-false c.before.before.accepted.result c.before.if1.false) c.before.before.before.check.ensures)))
 
-pub check-spec : {M : Type 1} → statement M
-check-spec =
+pub check_spec : {M : Type 1} → statement M
+check_spec =
     tie.close (tie.spec (λ c κs. search rules) (λ c κs. search rules) returns (λ c κs. search rules) returns-2)

@@ -5,15 +5,15 @@ use Rattle.event_check.proofs.content_holds.Tie as tie
 returns : tie.Need-returns
 returns c =
     rw (
-      c.before.before.is-marked2.ensures,
-      c.before.before.before.is-marked.ensures,
+      c.before.before.is_marked2.ensures,
+      c.before.before.before.is_marked.ensures,
       c.before.before.before.before.known3.ensures,
       c.before.before.before.before.before.known2.ensures,
       c.before.before.before.before.before.before.known.ensures,
     )
 
-pub content-holds-spec : {M : Type 1} → statement M
-content-holds-spec =
+pub content_holds_spec : {M : Type 1} → statement M
+content_holds_spec =
     tie.close
     (tie.spec
     (λ c. search rules)

@@ -19,14 +19,14 @@ unfolding driven_by
 loop-holds c = search rules
 
 loop-again : tie.Need-loop-preserved invariant-loop decreases-loop
-loop-again c = (search rules, rw (driven_more, ← c.before.before.loop.invariant.1) c.with-driven.ensures)
+loop-again c = (search rules, rw (driven_more, ← c.before.before.loop.invariant.1) c.with_driven.ensures)
 
 returns : tie.Need-returns invariant-loop decreases-loop
 returns c =
     let all : c.before.loop.i ≡ c.before.before.before.args.tasks = omega arith in
     c.before.loop.invariant.1 ∙ ap (driven_by _) all
 
-pub driven-tasks-spec : {M : Type 1} → statement M
-driven-tasks-spec =
+pub driven_tasks_spec : {M : Type 1} → statement M
+driven_tasks_spec =
     tie.close
     (tie.spec invariant-loop decreases-loop loop-holds (λ c κs. search rules) (λ c. search rules) (λ c. search rules) loop-again returns)

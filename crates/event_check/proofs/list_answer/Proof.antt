@@ -24,10 +24,10 @@ returns-3 : tie.Need-returns-3
 unfolding first_broken
 returns-3 c =
     rw (← c.before.before.before.before.size_holds.ensures, not-false c.before.before.before.before.size_holds.result c.before.before.before.if1.false, ← c.before.Targets-of.ensures)
-    c.all-events.ensures
+    c.all_events.ensures
 
-pub list-answer-spec : {M : Type 1} → statement M
-list-answer-spec =
+pub list_answer_spec : {M : Type 1} → statement M
+list_answer_spec =
     tie.close
     (tie.spec
     (λ c κs. search rules)

@@ -27,13 +27,13 @@ loop-holds c = (search rules, rw sub-zero)
 loop-again : tie.Need-loop-preserved invariant-loop decreases-loop
 loop-again c = (
   search rules,
-  rw (c.before.before.loop.invariant.1, written_more _ _ _ _ c.before.loop-test.true, ap (λ (m : Marked). m.marks) c.mark-one.ensures),
+  rw (c.before.before.loop.invariant.1, written_more _ _ _ _ c.before.loop-test.true, ap (λ (m : Marked). m.marks) c.mark_one.ensures),
 )
 
 returns : tie.Need-returns invariant-loop decreases-loop
 returns c = rw (c.before.loop.invariant.1, written_done _ _ _ _ c.loop-test.false)
 
-pub written-signals-spec : {M : Type 1} → statement M
-written-signals-spec =
+pub written_signals_spec : {M : Type 1} → statement M
+written_signals_spec =
     tie.close
     (tie.spec invariant-loop decreases-loop loop-holds (λ c κs. search rules) (λ c. search rules) (λ c. search rules) loop-again returns)

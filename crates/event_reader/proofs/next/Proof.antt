@@ -99,9 +99,9 @@ next-meets {𝓤 = 𝓤} 𝓛 mem run 𝓣 known =
     reader_meets 𝓛 (next.signature).result code.function 𝓣 (next.clauses 𝓛 mem run)
     (λ κ q d g is. walk 𝓛 mem run κ q d 𝓣.C 𝓣.Λ (fm_of 𝓤 𝓛.H 𝓛.laws 𝓣) known (reader_typed 𝓛 κ d is))
 
-pub next-spec : {M : Type 1} → stated.statement M
+pub next_spec : {M : Type 1} → stated.statement M
 unfolding code.routine tables_of
-next-spec 𝓤 𝓛 𝓜 𝓡 =
+next_spec 𝓤 𝓛 𝓜 𝓡 =
     entered 𝓤 𝓛.H (triple_of 𝓛 next.signature (next.spec 𝓛 𝓜.mem 𝓡.run))
     (tables 𝓤 𝓛.H 𝓜 𝓡 code.env).C (tables 𝓤 𝓛.H 𝓜 𝓡 code.env).Λ #event-reader·next code.function (code.unfolded 𝓤 𝓛.H 𝓜 𝓡)
     (next-meets 𝓛 𝓜.mem 𝓡.run (tables_of 𝓤 𝓛.H 𝓜 (tables 𝓤 𝓛.H 𝓜 𝓡 code.env))

@@ -66,9 +66,9 @@ place-meets 𝓛 mem run 𝓣 =
     reader_meets 𝓛 (place.signature).result code.function 𝓣 (place.clauses 𝓛 mem run)
     (λ κ q d g is. walk 𝓛 mem run κ q d 𝓣.C 𝓣.Λ is)
 
-pub place-spec : {M : Type 1} → stated.statement M
+pub place_spec : {M : Type 1} → stated.statement M
 unfolding code.routine tables_of
-place-spec 𝓤 𝓛 𝓜 𝓡 =
+place_spec 𝓤 𝓛 𝓜 𝓡 =
     entered 𝓤 𝓛.H (triple_of 𝓛 place.signature (place.spec 𝓛 𝓜.mem 𝓡.run))
     (tables 𝓤 𝓛.H 𝓜 𝓡 code.env).C (tables 𝓤 𝓛.H 𝓜 𝓡 code.env).Λ #event-reader·place code.function (code.unfolded 𝓤 𝓛.H 𝓜 𝓡)
     (place-meets 𝓛 𝓜.mem 𝓡.run (tables_of 𝓤 𝓛.H 𝓜 (tables 𝓤 𝓛.H 𝓜 𝓡 code.env)))

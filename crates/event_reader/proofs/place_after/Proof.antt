@@ -10,5 +10,5 @@ returns c = simp (lt-ltb _ _ c.if1.true)
 returns-2 : tie.Need-returns-2
 returns-2 c = simp (le-ltb _ _ c.if1.false)
 
-pub place-after-spec : {M : Type 1} → statement M
-place-after-spec = tie.close (tie.spec (λ c. search rules) returns returns-2)
+pub place_after_spec : {M : Type 1} → statement M
+place_after_spec = tie.close (tie.spec (λ c. search rules) returns returns-2)

@@ -11,8 +11,8 @@ returns c =
 returns-2 : tie.Need-returns-2
 returns-2 c = simp (le-ltb _ _ c.if1.false)
 
-pub read-at-spec : {M : Type 1} → statement M
-read-at-spec =
+pub read_at_spec : {M : Type 1} → statement M
+read_at_spec =
     tie.close
     (tie.spec
     (λ c. search rules)

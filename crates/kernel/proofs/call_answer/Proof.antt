@@ -43,7 +43,7 @@ returns-3 c =
     let given = checked.before.before.before.args in
     let accepted = accepted_by _ _ _ asked.accepted.ensures fitted.before.if1.false checked.check.ensures in
     sym (late_is_13 given.plan.now given.events.now given.state given.asked accepted _ fitted.fits2.ensures counted.before.if2.false
-    _ counted.ticks-hold.ensures c.if3.true)
+    _ counted.ticks_hold.ensures c.if3.true)
 
 -- 0
 returns-4 : tie.Need-returns-4
@@ -55,10 +55,10 @@ returns-4 c =
     let given = checked.before.before.before.args in
     let accepted = accepted_by _ _ _ asked.accepted.ensures fitted.before.if1.false checked.check.ensures in
     sym (all-hold_is_0 given.plan.now given.events.now given.state given.asked accepted _ fitted.fits2.ensures counted.before.if2.false
-    _ counted.ticks-hold.ensures c.if3.false)
+    _ counted.ticks_hold.ensures c.if3.false)
 
-pub call-answer-spec : {M : Type 1} → statement M
-call-answer-spec =
+pub call_answer_spec : {M : Type 1} → statement M
+call_answer_spec =
     tie.close
     (tie.spec
     (λ c κs. search rules)

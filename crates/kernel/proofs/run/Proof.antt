@@ -17,16 +17,16 @@ returns c =
     let answered = asked.before in
     let given = answered.before.before.before.before.args in
     let call = call_verdict given.plan.now given.events.now given.state given.asked in
-    let refused = refused_by _ _ call asked.accepted.ensures c.if1.true answered.call-answer.ensures in
-    record { answer = rw refused answered.call-answer.ensures; ticks = rw refused; records = rw refused; state = rw refused; trace = rw refused }
+    let refused = refused_by _ _ call asked.accepted.ensures c.if1.true answered.call_answer.ensures in
+    record { answer = rw refused answered.call_answer.ensures; ticks = rw refused; records = rw refused; state = rw refused; trace = rw refused }
 
-run-accepted-requires : tie.Need-run-accepted-requires
+run-accepted-requires : tie.Need-run_accepted-requires
 run-accepted-requires c κs =
     let asked = c.before.before in
     let answered = asked.before in
     let given = answered.before.before.before.before.args in
     let call = call_verdict given.plan.now given.events.now given.state given.asked in
-    eqb-true call.number 0 (accepted_by _ _ call asked.accepted.ensures c.before.if1.false answered.call-answer.ensures)
+    eqb-true call.number 0 (accepted_by _ _ call asked.accepted.ensures c.before.if1.false answered.call_answer.ensures)
 
 pub run_spec : {M : Type 1} → statement M
 run_spec =

@@ -25,6 +25,6 @@ returns-3 c =
     (asked true c.before.before.before.accepted.result _ _ c.before.before.before.accepted.ensures (not-false c.before.before.before.accepted.result c.before.before.if1.false) c.before.before.before.before.check.ensures)
     false (rw (← c.before.word.ensures) (le-ltb _ _ c.if2.false)))
 
-pub body-answer-spec : {M : Type 1} → statement M
-body-answer-spec =
+pub body_answer_spec : {M : Type 1} → statement M
+body_answer_spec =
     tie.close (tie.spec (λ c κs. search rules) (λ c κs. search rules) returns (λ c κs. search rules) returns-2 returns-3)

@@ -23,13 +23,13 @@ verdict_at c =
 
 -- the question after the answer is one about the verdict
 accepts : (c : tie.After-accepted) (b : Bool) → c.accepted.result ≡ b → eqb (verdict_at c).number 0 ≡ b
-accepts c b e = asked b c.accepted.result _ _ c.accepted.ensures e c.before.before.before.before.body-answer.ensures
+accepts c b e = asked b c.accepted.result _ _ c.accepted.ensures e c.before.before.before.before.body_answer.ensures
 
 -- what is written into the lent pair
 told : (c : tie.After-accepted) → (c.before.before.before.number.result ∷ c.before.before.place.result ∷ []) ≡ pair_of (verdict_at c)
 told c =
     let number = c.before.before.before in
-    pair_told _ _ number.number.ensures c.before.before.place.ensures number.before.body-answer.ensures
+    pair_told _ _ number.number.ensures c.before.before.place.ensures number.before.body_answer.ensures
 
 returns : tie.Need-returns
 returns c =
@@ -38,13 +38,13 @@ returns c =
     record { body = rw refused (record { stands = refl; holds = refl }); said = told answer }
 
 -- the body lies inside the file
-inside : (c : tie.After-length-of) → (c.before.start_of_lem.result + c.length-of.result) ≤ length c.before.before.before.before.before.before.before.before.before.args.plan.now / 4
+inside : (c : tie.After-length-of) → (c.before.start_of_lem.result + c.length_of.result) ≤ length c.before.before.before.before.before.before.before.before.before.args.plan.now / 4
 inside c =
     let past = c.before.before in
     let answer = past.before in
     let start = answer.before.before.before.before.before.before.args in
     let seen = found start.plan.now start.task (eqb-true _ 0 (accepts answer true (not-false answer.accepted.result past.if1.false))) in
-    rw (c.before.start_of_lem.ensures, c.length-of.ensures)
+    rw (c.before.start_of_lem.ensures, c.length_of.ensures)
     (task_bytes start.plan.now (accepted start.plan.now seen.accepted) start.task seen.below)
 
 part-result-end-2 : tie.Need-slice-bounds-result-end-2
@@ -57,16 +57,16 @@ returns-2 c =
     let past = start.before in
     let answer = past.before in
     let first = start.start_of_lem.result * 4 in
-    let count = length.length-of.result * 4 in
+    let count = length.length_of.result * 4 in
     let size : first + count - first ≡ count = omega arith in
     let found = accepts answer true (not-false answer.accepted.result past.if1.false) in
     record {
-      body = rw (found, ← start.start_of_lem.ensures, ← length.length-of.ensures) (record { stands = refl; holds = rw size });
+      body = rw (found, ← start.start_of_lem.ensures, ← length.length_of.ensures) (record { stands = refl; holds = rw size });
       said = told answer;
     }
 
-pub task-body-spec : {M : Type 1} → statement M
-task-body-spec =
+pub task_body_spec : {M : Type 1} → statement M
+task_body_spec =
     tie.close
     (tie.spec
     (λ c κs. search rules)

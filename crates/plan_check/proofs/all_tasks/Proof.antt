@@ -29,7 +29,7 @@ returns c =
     rw (
       c.before.before.before.before.loop.invariant.1,
       tasks_more _ _ _ _ c.before.before.before.loop-test.true,
-      ← c.before.before.one-task.ensures,
+      ← c.before.before.one_task.ensures,
       ← c.before.accepted.ensures,
       not-true c.before.accepted.result c.if1.true,
     )
@@ -40,7 +40,7 @@ loop-again c = (
   rw (
     c.before.before.before.before.loop.invariant.1,
     tasks_more _ _ _ _ c.before.before.before.loop-test.true,
-    ← c.before.before.one-task.ensures,
+    ← c.before.before.one_task.ensures,
     ← c.before.accepted.ensures,
     not-false c.before.accepted.result c.if1.false,
   ),
@@ -49,8 +49,8 @@ loop-again c = (
 returns-2 : tie.Need-returns-2 invariant-loop decreases-loop
 returns-2 c = rw (c.before.loop.invariant.1, tasks_done _ _ _ _ c.loop-test.false)
 
-pub all-tasks-spec : {M : Type 1} → statement M
-all-tasks-spec =
+pub all_tasks_spec : {M : Type 1} → statement M
+all_tasks_spec =
     tie.close
     (tie.spec
     invariant-loop

@@ -15,9 +15,9 @@ use Rattle.plan_check.proofs.check.Tie as tie
 
 returns : tie.Need-returns
 returns c =
-    c.before.before.head-answer.ensures
+    c.before.before.head_answer.ensures
     ∙ sym (head_decides c.before.before.before.before.args.bytes.now
-    (asked false c.before.accepted.result _ _ c.before.accepted.ensures (not-true c.before.accepted.result c.if1.true) c.before.before.head-answer.ensures))
+    (asked false c.before.accepted.result _ _ c.before.accepted.ensures (not-true c.before.accepted.result c.if1.true) c.before.before.head_answer.ensures))
 
 -- the first three rules hold
 passed : (c : tie.After-all-tasks) → eqb (first_broken (head_rules c.before.before.before.before.before.before.before.args.bytes.now)).number 0 ≡ true
@@ -25,11 +25,11 @@ passed c =
     let past = c.before.before.before in
     let head = past.before in
     asked true head.accepted.result _ _ head.accepted.ensures (not-false head.accepted.result past.if1.false)
-    head.before.head-answer.ensures
+    head.before.head_answer.ensures
 
 -- what the tasks' answer says
-each : (c : tie.After-all-tasks) → said c.all-tasks.result ≡ first_broken (each_task c.before.before.before.before.before.before.before.args.bytes.now)
-each c = rw (c.before.before.word.ensures, c.before.word2.ensures) at c.all-tasks.ensures
+each : (c : tie.After-all-tasks) → said c.all_tasks.result ≡ first_broken (each_task c.before.before.before.before.before.before.before.args.bytes.now)
+each c = rw (c.before.before.word.ensures, c.before.word2.ensures) at c.all_tasks.ensures
 
 returns-2 : tie.Need-returns-2
 returns-2 c =
@@ -49,8 +49,8 @@ returns-3 c =
     ∙ sym (head_passes bytes (passed tasks.before)
     ∙ clashes_are bytes (signals_limit bytes (passed tasks.before)) (eqb-true _ 0 hold))
 
-pub check-spec : {M : Type 1} → statement M
-check-spec =
+pub check_spec : {M : Type 1} → statement M
+check_spec =
     tie.close
     (tie.spec
     (λ c κs. search rules)

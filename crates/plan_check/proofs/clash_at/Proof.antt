@@ -8,5 +8,5 @@ returns c = rw c.if1.true
 returns-2 : tie.Need-returns-2
 returns-2 c = rw c.if1.false
 
-pub clash-at-spec : {M : Type 1} → statement M
-clash-at-spec = tie.close (tie.spec returns returns-2)
+pub clash_at_spec : {M : Type 1} → statement M
+clash_at_spec = tie.close (tie.spec returns returns-2)

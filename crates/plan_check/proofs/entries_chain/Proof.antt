@@ -25,14 +25,14 @@ loop-again : tie.Need-loop-preserved invariant-loop decreases-loop
 loop-again c = (
   search rules,
   search rules,
-  rw (c.before.before.before.loop.invariant.2, chained_more _ _ _ _ _ c.before.before.loop-test.true, c.before.start_of_lem.ensures, c.length-of.ensures),
+  rw (c.before.before.before.loop.invariant.2, chained_more _ _ _ _ _ c.before.before.loop-test.true, c.before.start_of_lem.ensures, c.length_of.ensures),
 )
 
 returns : tie.Need-returns invariant-loop decreases-loop
 returns c = rw (c.before.loop.invariant.2, chained-done _ _ _ _ _ c.loop-test.false, words_length)
 
-pub entries-chain-spec : {M : Type 1} → statement M
-entries-chain-spec =
+pub entries_chain_spec : {M : Type 1} → statement M
+entries_chain_spec =
     tie.close
     (tie.spec
     invariant-loop

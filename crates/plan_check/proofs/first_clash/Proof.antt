@@ -29,9 +29,9 @@ returns c =
     rw (
       c.before.before.before.before.before.loop.invariant.1,
       clash_more _ _ _ _ _ c.before.before.before.before.loop-test.true,
-      ← ap (λ (m : Marked). m.new) c.before.before.before.mark-one.ensures,
-      not-true c.before.before.before.mark-one.result.new c.before.if1.true,
-    ) c.clash-at.ensures
+      ← ap (λ (m : Marked). m.new) c.before.before.before.mark_one.ensures,
+      not-true c.before.before.before.mark_one.result.new c.before.if1.true,
+    ) c.clash_at.ensures
 
 loop-again : tie.Need-loop-preserved invariant-loop decreases-loop
 loop-again c = (
@@ -39,17 +39,17 @@ loop-again c = (
   rw (
     c.before.before.before.before.loop.invariant.1,
     clash_more _ _ _ _ _ c.before.before.before.loop-test.true,
-    ← ap (λ (m : Marked). m.new) c.before.before.mark-one.ensures,
-    not-false c.before.before.mark-one.result.new c.if1.false,
-    ap (λ (m : Marked). m.marks) c.before.before.mark-one.ensures,
+    ← ap (λ (m : Marked). m.new) c.before.before.mark_one.ensures,
+    not-false c.before.before.mark_one.result.new c.if1.false,
+    ap (λ (m : Marked). m.marks) c.before.before.mark_one.ensures,
   ),
 )
 
 returns-2 : tie.Need-returns-2 invariant-loop decreases-loop
 returns-2 c = rw (c.before.loop.invariant.1, clash_done _ _ _ _ _ c.loop-test.false)
 
-pub first-clash-spec : {M : Type 1} → statement M
-first-clash-spec =
+pub first_clash_spec : {M : Type 1} → statement M
+first_clash_spec =
     tie.close
     (tie.spec
     invariant-loop

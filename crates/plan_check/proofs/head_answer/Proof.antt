@@ -17,12 +17,12 @@ returns-2 c =
     rw (
       ← c.before.before.before.size_holds.ensures,
       not-false c.before.before.before.size_holds.result c.before.before.if1.false,
-      ← c.before.head-holds.ensures,
-      not-true c.before.head-holds.result c.if2.true,
+      ← c.before.head_holds.ensures,
+      not-true c.before.head_holds.result c.if2.true,
     )
 
-contents-hold-requires : tie.Need-contents-hold-requires
-contents-hold-requires c κs = tasks_limit (words_of c.before.before.before.before.before.args.bytes.now) (sym c.before.head-holds.ensures ∙ not-false c.before.head-holds.result c.if2.false)
+contents-hold-requires : tie.Need-contents_hold-requires
+contents-hold-requires c κs = tasks_limit (words_of c.before.before.before.before.before.args.bytes.now) (sym c.before.head_holds.ensures ∙ not-false c.before.head_holds.result c.if2.false)
 
 returns-3 : tie.Need-returns-3
 unfolding first_broken
@@ -30,10 +30,10 @@ returns-3 c =
     rw (
       ← c.before.before.before.before.before.size_holds.ensures,
       not-false c.before.before.before.before.before.size_holds.result c.before.before.before.before.if1.false,
-      ← c.before.before.before.head-holds.ensures,
-      not-false c.before.before.before.head-holds.result c.before.before.if2.false,
-      ← c.before.contents-hold.ensures,
-      not-true c.before.contents-hold.result c.if3.true,
+      ← c.before.before.before.head_holds.ensures,
+      not-false c.before.before.before.head_holds.result c.before.before.if2.false,
+      ← c.before.contents_hold.ensures,
+      not-true c.before.contents_hold.result c.if3.true,
     )
 
 returns-4 : tie.Need-returns-4
@@ -42,14 +42,14 @@ returns-4 c =
     rw (
       ← c.before.before.before.before.before.size_holds.ensures,
       not-false c.before.before.before.before.before.size_holds.result c.before.before.before.before.if1.false,
-      ← c.before.before.before.head-holds.ensures,
-      not-false c.before.before.before.head-holds.result c.before.before.if2.false,
-      ← c.before.contents-hold.ensures,
-      not-false c.before.contents-hold.result c.if3.false,
+      ← c.before.before.before.head_holds.ensures,
+      not-false c.before.before.before.head_holds.result c.before.before.if2.false,
+      ← c.before.contents_hold.ensures,
+      not-false c.before.contents_hold.result c.if3.false,
     )
 
-pub head-answer-spec : {M : Type 1} → statement M
-head-answer-spec =
+pub head_answer_spec : {M : Type 1} → statement M
+head_answer_spec =
     tie.close
     (tie.spec
     (λ c κs. search rules)

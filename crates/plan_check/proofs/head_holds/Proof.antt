@@ -5,5 +5,5 @@ use Rattle.plan_check.proofs.head_holds.Tie as tie
 returns : tie.Need-returns
 returns c = cc
 
-pub head-holds-spec : {M : Type 1} → statement M
-head-holds-spec = tie.close (tie.spec (λ c κs. search rules) (λ c κs. search rules) (λ c κs. search rules) returns)
+pub head_holds_spec : {M : Type 1} → statement M
+head_holds_spec = tie.close (tie.spec (λ c κs. search rules) (λ c κs. search rules) (λ c κs. search rules) returns)

@@ -26,15 +26,15 @@ loop-holds c = (search rules, rw sub-zero, rw sub-zero)
 loop-again : tie.Need-loop-preserved invariant-loop decreases-loop
 loop-again c = (
   search rules,
-  rw (c.before.before.before.before.loop.invariant.1, new_more _ _ _ _ _ c.before.before.before.loop-test.true, c.with-mark.ensures, c.before.is-marked.ensures, c.before.before.word.ensures),
-  rw (c.before.before.before.before.loop.invariant.2, mark-more _ _ _ _ c.before.before.before.loop-test.true, c.with-mark.ensures, c.before.before.word.ensures),
+  rw (c.before.before.before.before.loop.invariant.1, new_more _ _ _ _ _ c.before.before.before.loop-test.true, c.with_mark.ensures, c.before.is_marked.ensures, c.before.before.word.ensures),
+  rw (c.before.before.before.before.loop.invariant.2, mark-more _ _ _ _ c.before.before.before.loop-test.true, c.with_mark.ensures, c.before.before.word.ensures),
 )
 
 returns : tie.Need-returns invariant-loop decreases-loop
 returns c = rw (c.before.loop.invariant.1, c.before.loop.invariant.2, new_done _ _ _ _ _ c.loop-test.false, mark-done _ _ _ _ c.loop-test.false)
 
-pub mark-words-spec : {M : Type 1} → statement M
-mark-words-spec =
+pub mark_words_spec : {M : Type 1} → statement M
+mark_words_spec =
     tie.close
     (tie.spec
     invariant-loop

@@ -5,7 +5,7 @@ use Rattle.plan_check.proofs.one_task.Statement.{statement}
 use Rattle.plan_check.proofs.one_task.Tie as tie
 
 returns : tie.Need-returns
-returns c = c.task-answer.ensures ∙ rw (c.before.task-part.ensures, part-words)
+returns c = c.task_answer.ensures ∙ rw (c.before.task_part.ensures, part-words)
 
-pub one-task-spec : {M : Type 1} → statement M
-one-task-spec = tie.close (tie.spec (λ c κs. search rules) (λ c κs. search rules) returns)
+pub one_task_spec : {M : Type 1} → statement M
+one_task_spec = tie.close (tie.spec (λ c κs. search rules) (λ c κs. search rules) returns)

@@ -5,8 +5,8 @@ use Rattle.plan_task.proofs.action_holds.Tie as tie
 returns : tie.Need-returns
 returns c = cc
 
-pub action-holds-spec : {M : Type 1} → statement M
-action-holds-spec =
+pub action_holds_spec : {M : Type 1} → statement M
+action_holds_spec =
     tie.close
     (tie.spec
     (λ c κs. search rules)

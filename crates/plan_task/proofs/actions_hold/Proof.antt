@@ -24,13 +24,13 @@ loop-holds : tie.Need-loop-init invariant-loop decreases-loop
 loop-holds c = (search rules, rw sub-zero)
 
 loop-again : tie.Need-loop-preserved invariant-loop decreases-loop
-loop-again c = (search rules, rw (c.before.before.loop.invariant.1, all_more _ _ _ _ _ c.before.loop-test.true, c.action-holds.ensures))
+loop-again c = (search rules, rw (c.before.before.loop.invariant.1, all_more _ _ _ _ _ c.before.loop-test.true, c.action_holds.ensures))
 
 returns : tie.Need-returns invariant-loop decreases-loop
 returns c = rw (c.before.loop.invariant.1, all_done _ _ _ _ _ c.loop-test.false)
 
-pub actions-hold-spec : {M : Type 1} → statement M
-actions-hold-spec =
+pub actions_hold_spec : {M : Type 1} → statement M
+actions_hold_spec =
     tie.close
     (tie.spec
     invariant-loop

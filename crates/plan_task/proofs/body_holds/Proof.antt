@@ -13,15 +13,15 @@ returns c =
     let kind = inputs.before in
     let counts = kind.before.before in
     rw (
-      kind.kind-holds.ensures,
-      inputs.signals-hold.ensures,
-      outputs.signals-hold2.ensures,
-      transitions.transitions-hold.ensures,
-      c.actions-hold.ensures,
-      outputs.before.outputs-at.ensures.0,
-      transitions.before.transitions-at.ensures.0,
-      c.before.actions-at.ensures.0,
-      kind.before.lowest-output.ensures,
+      kind.kind_holds.ensures,
+      inputs.signals_hold.ensures,
+      outputs.signals_hold2.ensures,
+      transitions.transitions_hold.ensures,
+      c.actions_hold.ensures,
+      outputs.before.outputs_at.ensures.0,
+      transitions.before.transitions_at.ensures.0,
+      c.before.actions_at.ensures.0,
+      kind.before.lowest_output.ensures,
       counts.before.before.before.before.word.ensures,
       counts.before.before.before.word2.ensures,
       counts.before.before.word3.ensures,
@@ -30,8 +30,8 @@ returns c =
     )
     (simp length-tab)
 
-pub body-holds-spec : {M : Type 1} → statement M
-body-holds-spec =
+pub body_holds_spec : {M : Type 1} → statement M
+body_holds_spec =
     tie.close
     (tie.spec
     (λ c κs. search rules)

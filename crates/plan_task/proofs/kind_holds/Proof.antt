@@ -8,5 +8,5 @@ returns : tie.Need-returns
 unfolding task_of
 returns c = simp length-tab (cc)
 
-pub kind-holds-spec : {M : Type 1} → statement M
-kind-holds-spec = tie.close (tie.spec (λ c κs. search rules) (λ c κs. search rules) (λ c κs. search rules) (λ c κs. search rules) (λ c κs. search rules) returns)
+pub kind_holds_spec : {M : Type 1} → statement M
+kind_holds_spec = tie.close (tie.spec (λ c κs. search rules) (λ c κs. search rules) (λ c κs. search rules) (λ c κs. search rules) (λ c κs. search rules) returns)

@@ -8,5 +8,5 @@ returns c = rw (eq-eqb _ _ c.if1.true)
 returns-2 : tie.Need-returns-2
 returns-2 c = rw (ne_eqb _ _ c.if1.false)
 
-pub lowest-output-spec : {M : Type 1} → statement M
-lowest-output-spec = tie.close (tie.spec returns returns-2)
+pub lowest_output_spec : {M : Type 1} → statement M
+lowest_output_spec = tie.close (tie.spec returns returns-2)

@@ -6,8 +6,8 @@ use Rattle.plan_task.proofs.shape_holds.Tie as tie
 returns : tie.Need-returns
 returns c = simp words_length (cc)
 
-pub shape-holds-spec : {M : Type 1} → statement M
-shape-holds-spec =
+pub shape_holds_spec : {M : Type 1} → statement M
+shape_holds_spec =
     tie.close
     (tie.spec
     (λ c κs. search rules)

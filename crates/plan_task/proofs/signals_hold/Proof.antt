@@ -29,8 +29,8 @@ loop-again c = (search rules, rw (c.before.before.loop.invariant.1, all_more _ _
 returns : tie.Need-returns invariant-loop decreases-loop
 returns c = rw (c.before.loop.invariant.1, all_done _ _ _ _ _ c.loop-test.false)
 
-pub signals-hold-spec : {M : Type 1} → statement M
-signals-hold-spec =
+pub signals_hold_spec : {M : Type 1} → statement M
+signals_hold_spec =
     tie.close
     (tie.spec
     invariant-loop

@@ -9,5 +9,5 @@ returns c = (rw (le-leb _ _ c.if1.true), omega arith)
 returns-2 : tie.Need-returns-2
 returns-2 c = (rw (lt-leb _ _ c.if1.false), omega arith)
 
-pub slot-of-spec : {M : Type 1} → statement M
-slot-of-spec = tie.close (tie.spec returns returns-2)
+pub slot_of_spec : {M : Type 1} → statement M
+slot_of_spec = tie.close (tie.spec returns returns-2)

@@ -20,49 +20,49 @@ shape-length part e = sym (simp tests at e).1 ∙ words_length part
 
 returns : tie.Need-returns
 unfolding first_broken
-returns c = rw (← c.before.shape-holds.ensures, not-true c.before.shape-holds.result c.if1.true)
+returns c = rw (← c.before.shape_holds.ensures, not-true c.before.shape_holds.result c.if1.true)
 
 returns-2 : tie.Need-returns-2
 unfolding first_broken
 returns-2 c =
     rw (
-      ← c.before.before.before.shape-holds.ensures,
-      not-false c.before.before.before.shape-holds.result c.before.before.if1.false,
-      ← c.before.timing-holds.ensures,
-      not-true c.before.timing-holds.result c.if2.true,
+      ← c.before.before.before.shape_holds.ensures,
+      not-false c.before.before.before.shape_holds.result c.before.before.if1.false,
+      ← c.before.timing_holds.ensures,
+      not-true c.before.timing_holds.result c.if2.true,
     )
 
-body-holds-requires : tie.Need-body-holds-requires
+body-holds-requires : tie.Need-body_holds-requires
 body-holds-requires c κs =
     shape-length c.before.before.before.before.before.args.part.now
-    (sym c.before.before.before.shape-holds.ensures ∙ not-false c.before.before.before.shape-holds.result c.before.before.if1.false)
+    (sym c.before.before.before.shape_holds.ensures ∙ not-false c.before.before.before.shape_holds.result c.before.before.if1.false)
 
 returns-3 : tie.Need-returns-3
 unfolding first_broken
 returns-3 c =
     rw (
-      ← c.before.before.before.before.before.shape-holds.ensures,
-      not-false c.before.before.before.before.before.shape-holds.result c.before.before.before.before.if1.false,
-      ← c.before.before.before.timing-holds.ensures,
-      not-false c.before.before.before.timing-holds.result c.before.before.if2.false,
-      ← c.before.body-holds.ensures,
-      not-true c.before.body-holds.result c.if3.true,
+      ← c.before.before.before.before.before.shape_holds.ensures,
+      not-false c.before.before.before.before.before.shape_holds.result c.before.before.before.before.if1.false,
+      ← c.before.before.before.timing_holds.ensures,
+      not-false c.before.before.before.timing_holds.result c.before.before.if2.false,
+      ← c.before.body_holds.ensures,
+      not-true c.before.body_holds.result c.if3.true,
     )
 
 returns-4 : tie.Need-returns-4
 unfolding first_broken
 returns-4 c =
     rw (
-      ← c.before.before.before.before.before.shape-holds.ensures,
-      not-false c.before.before.before.before.before.shape-holds.result c.before.before.before.before.if1.false,
-      ← c.before.before.before.timing-holds.ensures,
-      not-false c.before.before.before.timing-holds.result c.before.before.if2.false,
-      ← c.before.body-holds.ensures,
-      not-false c.before.body-holds.result c.if3.false,
+      ← c.before.before.before.before.before.shape_holds.ensures,
+      not-false c.before.before.before.before.before.shape_holds.result c.before.before.before.before.if1.false,
+      ← c.before.before.before.timing_holds.ensures,
+      not-false c.before.before.before.timing_holds.result c.before.before.if2.false,
+      ← c.before.body_holds.ensures,
+      not-false c.before.body_holds.result c.if3.false,
     )
 
-pub task-answer-spec : {M : Type 1} → statement M
-task-answer-spec =
+pub task_answer_spec : {M : Type 1} → statement M
+task_answer_spec =
     tie.close
     (tie.spec
     (λ c κs. search rules)

@@ -7,5 +7,5 @@ returns : tie.Need-returns
 unfolding task_of
 returns c = cc
 
-pub timing-holds-spec : {M : Type 1} → statement M
-timing-holds-spec = tie.close (tie.spec (λ c κs. search rules) (λ c κs. search rules) (λ c κs. search rules) (λ c κs. search rules) (λ c κs. search rules) returns)
+pub timing_holds_spec : {M : Type 1} → statement M
+timing_holds_spec = tie.close (tie.spec (λ c κs. search rules) (λ c κs. search rules) (λ c κs. search rules) (λ c κs. search rules) (λ c κs. search rules) returns)

@@ -5,8 +5,8 @@ use Rattle.plan_task.proofs.transition_holds.Tie as tie
 returns : tie.Need-returns
 returns c = cc
 
-pub transition-holds-spec : {M : Type 1} → statement M
-transition-holds-spec =
+pub transition_holds_spec : {M : Type 1} → statement M
+transition_holds_spec =
     tie.close
     (tie.spec
     (λ c κs. search rules)

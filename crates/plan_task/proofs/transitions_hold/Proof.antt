@@ -34,20 +34,20 @@ loop-again c =
       rw (
         turn.before.loop.invariant.1,
         orders_more _ _ _ _ _ _ turn.loop-test.true,
-        c.with-mark.ensures,
-        marked.is-marked.ensures,
+        c.with_mark.ensures,
+        marked.is_marked.ensures,
         slot.slot_of.ensures.0,
         slot.before.known.ensures,
         marked.before.known2.ensures,
-        one.transition-holds.ensures,
+        one.transition_holds.ensures,
       ),
     )
 
 returns : tie.Need-returns invariant-loop decreases-loop
 returns c = rw (c.before.loop.invariant.1, orders_done _ _ _ _ _ _ c.loop-test.false)
 
-pub transitions-hold-spec : {M : Type 1} → statement M
-transitions-hold-spec =
+pub transitions_hold_spec : {M : Type 1} → statement M
+transitions_hold_spec =
     tie.close
     (tie.spec
     invariant-loop

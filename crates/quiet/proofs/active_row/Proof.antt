@@ -18,16 +18,16 @@ loop-holds : tie.Need-loop-init invariant-loop decreases-loop
 loop-holds c = (search rules, rw sub-zero)
 
 returns : tie.Need-returns invariant-loop decreases-loop
-returns c = rw (c.before.before.before.before.loop.invariant.1, first_more _ _ _ _ c.before.before.before.loop-test.true, ← c.before.before.row_field.ensures, ← c.before.task-field.ensures, eq-eqb _ _ c.if1.true)
+returns c = rw (c.before.before.before.before.loop.invariant.1, first_more _ _ _ _ c.before.before.before.loop-test.true, ← c.before.before.row_field.ensures, ← c.before.task_field.ensures, eq-eqb _ _ c.if1.true)
 
 loop-again : tie.Need-loop-preserved invariant-loop decreases-loop
-loop-again c = (search rules, rw (c.before.before.before.before.loop.invariant.1, first_more _ _ _ _ c.before.before.before.loop-test.true, ← c.before.before.row_field.ensures, ← c.before.task-field.ensures, ne_eqb _ _ c.if1.false))
+loop-again c = (search rules, rw (c.before.before.before.before.loop.invariant.1, first_more _ _ _ _ c.before.before.before.loop-test.true, ← c.before.before.row_field.ensures, ← c.before.task_field.ensures, ne_eqb _ _ c.if1.false))
 
 returns-2 : tie.Need-returns-2 invariant-loop decreases-loop
 returns-2 c = rw (c.before.loop.invariant.1, first_done _ _ _ _ c.loop-test.false)
 
-pub active-row-spec : {M : Type 1} → statement M
-active-row-spec =
+pub active_row_spec : {M : Type 1} → statement M
+active_row_spec =
     tie.close
     (tie.spec
     invariant-loop

@@ -17,13 +17,13 @@ loop-holds : tie.Need-loop-init invariant-loop decreases-loop
 loop-holds c = λ i b. refl
 
 loop-again : tie.Need-loop-preserved invariant-loop decreases-loop
-loop-again c = rw c.with-asked.ensures (asked_more _ _ _ _ _ c.before.before.loop.invariant c.before.loop-test.true)
+loop-again c = rw c.with_asked.ensures (asked_more _ _ _ _ _ c.before.before.loop.invariant c.before.loop-test.true)
 
 returns : tie.Need-returns invariant-loop decreases-loop
 returns c = asked_done _ _ _ _ _ c.before.loop.invariant c.loop-test.false
 
-pub asked-tasks-spec : {M : Type 1} → statement M
-asked-tasks-spec =
+pub asked_tasks_spec : {M : Type 1} → statement M
+asked_tasks_spec =
     tie.close
     (tie.spec
     invariant-loop

@@ -23,13 +23,13 @@ mul-bit : tie.Need-overflow-mul-bit invariant-loop decreases-loop
 mul-bit c = let small = doubled_small _ _ c.before.before.before.loop.invariant.1 c.before.before.loop-test.true in omega arith
 
 loop-again : tie.Need-loop-preserved invariant-loop decreases-loop
-loop-again c = (search rules, doubled _ _ c.before.before.before.loop.invariant.1, all_more _ _ _ _ c.before.before.before.loop.invariant.2 (rw (← c.before.before.before.loop.invariant.1) c.bits-if.ensures))
+loop-again c = (search rules, doubled _ _ c.before.before.before.loop.invariant.1, all_more _ _ _ _ c.before.before.before.loop.invariant.2 (rw (← c.before.before.before.loop.invariant.1) c.bits_if.ensures))
 
 returns : tie.Need-returns invariant-loop decreases-loop
 returns c = λ k h. c.before.loop.invariant.2 k (omega (arith, h, c.loop-test.false))
 
-pub awake-all-spec : {M : Type 1} → statement M
-awake-all-spec =
+pub awake_all_spec : {M : Type 1} → statement M
+awake_all_spec =
     tie.close
     (tie.spec
     invariant-loop

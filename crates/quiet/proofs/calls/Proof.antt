@@ -6,9 +6,9 @@ use Rattle.quiet.proofs.calls.Tie as tie
 
 returns : tie.Need-returns
 returns c =
-    λ j h b. let none = has-neither c.before.awake.result c.asked-rows.result j b in (
+    λ j h b. let none = has-neither c.before.awake.result c.asked_rows.result j b in (
       leb-false _ _ (c.before.awake.ensures j h none.0),
-      c.asked-rows.ensures j h none.1,
+      c.asked_rows.ensures j h none.1,
     )
 
 pub calls_spec : {M : Type 1} → statement M

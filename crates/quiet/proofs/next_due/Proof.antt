@@ -18,7 +18,7 @@ sub-sum c = le_of_lt (mod-lt _ c.before.before.requires)
 returns-3 : tie.Need-returns-3
 returns-3 c = λ u l b. between-releases _ u _ _ (omega (arith, c.before.before.if1.false)) (omega (arith, c.before.if2.false)) l (omega (arith, b, c.sum.ensures))
 
-pub next-due-spec : {M : Type 1} → statement M
-next-due-spec =
+pub next_due_spec : {M : Type 1} → statement M
+next_due_spec =
     tie.close
     (tie.spec returns (λ c. search rules) (λ c. search rules) returns-2 sub-sum (λ c κs. search rules) returns-3)

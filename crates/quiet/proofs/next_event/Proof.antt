@@ -12,5 +12,5 @@ returns c = λ u b. rw (end_more _ _ _ _ c.before.if1.true, ← c.word.ensures, 
 returns-2 : tie.Need-returns-2
 returns-2 c = λ u b. end_done _ _ _ _ c.if1.false
 
-pub next-event-spec : {M : Type 1} → statement M
-next-event-spec = tie.close (tie.spec (λ c. search rules) (λ c κs. search rules) returns returns-2)
+pub next_event_spec : {M : Type 1} → statement M
+next_event_spec = tie.close (tie.spec (λ c. search rules) (λ c κs. search rules) returns returns-2)

@@ -5,7 +5,7 @@ use Rattle.quiet.proofs.next_wake.Statement.{statement}
 use Rattle.quiet.proofs.next_wake.Tie as tie
 
 returns-2 : tie.Need-returns-2
-returns-2 c = λ j h. c.wake-all.ensures j (omega (arith, h, c.before.before.requires))
+returns-2 c = λ j h. c.wake_all.ensures j (omega (arith, h, c.before.before.requires))
 
-pub next-wake-spec : {M : Type 1} → statement M
-next-wake-spec = tie.close (tie.spec (λ c κs. search rules) (λ c κs. search rules) (λ c. search rules) returns-2)
+pub next_wake_spec : {M : Type 1} → statement M
+next_wake_spec = tie.close (tie.spec (λ c κs. search rules) (λ c κs. search rules) (λ c. search rules) returns-2)

@@ -20,8 +20,8 @@ loop-again c = (search rules, noughts_more _ c.before.loop.wakes c.before.loop.i
 returns : tie.Need-returns invariant-loop decreases-loop
 returns c = λ k h. c.before.loop.invariant.1 k (omega (arith, h, c.loop-test.false))
 
-pub no-wakes-spec : {M : Type 1} → statement M
-no-wakes-spec =
+pub no_wakes_spec : {M : Type 1} → statement M
+no_wakes_spec =
     tie.close
     (tie.spec
     invariant-loop

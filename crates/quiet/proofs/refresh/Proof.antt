@@ -18,13 +18,13 @@ loop-less : tie.Need-loop-smaller invariant-loop decreases-loop
 loop-less c = let after = next_after _ _ _ c.next2.ensures in omega (arith, c.before.before.before.before.loop-test.true)
 
 loop-again : tie.Need-loop-preserved invariant-loop decreases-loop
-loop-again c = rw c.before.put.ensures (fresh-more _ _ _ _ _ c.before.before.before.before.before.loop.wakes _ c.before.before.before.before.before.loop.invariant _ _ c.before.before.before.row-wake.ensures c.next2.ensures)
+loop-again c = rw c.before.put.ensures (fresh-more _ _ _ _ _ c.before.before.before.before.before.loop.wakes _ c.before.before.before.before.before.loop.invariant _ _ c.before.before.before.row_wake.ensures c.next2.ensures)
 
 returns : tie.Need-returns invariant-loop decreases-loop
 returns c = fresh-done _ _ _ _ _ c.before.loop.wakes _ c.loop-test.false c.before.loop.invariant
 
-pub refresh-spec : {M : Type 1} → statement M
-refresh-spec =
+pub refresh_spec : {M : Type 1} → statement M
+refresh_spec =
     tie.close
     (tie.spec
     invariant-loop

@@ -19,13 +19,13 @@ loop-holds : tie.Need-loop-init invariant-loop decreases-loop
 loop-holds c = (search rules, λ k h. absurd (omega (arith, h)))
 
 loop-again : tie.Need-loop-preserved invariant-loop decreases-loop
-loop-again c = (search rules, all_more _ _ _ _ c.before.before.before.before.loop.invariant.1 (rw (← c.before.before.row_field.ensures, ← c.before.is-marked.ensures) (rw (one_shl 32 {k = c.before.before.before.before.loop.j} (let few = c.before.before.before.before.before.before.requires in let here = c.before.before.before.loop-test.true in omega arith)) at c.bits-if.ensures)))
+loop-again c = (search rules, all_more _ _ _ _ c.before.before.before.before.loop.invariant.1 (rw (← c.before.before.row_field.ensures, ← c.before.is_marked.ensures) (rw (one_shl 32 {k = c.before.before.before.before.loop.j} (let few = c.before.before.before.before.before.before.requires in let here = c.before.before.before.loop-test.true in omega arith)) at c.bits_if.ensures)))
 
 returns : tie.Need-returns invariant-loop decreases-loop
 returns c = λ k h. c.before.loop.invariant.1 k (omega (arith, h, c.loop-test.false))
 
-pub rows-of-spec : {M : Type 1} → statement M
-rows-of-spec =
+pub rows_of_spec : {M : Type 1} → statement M
+rows_of_spec =
     tie.close
     (tie.spec
     invariant-loop

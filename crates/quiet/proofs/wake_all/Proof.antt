@@ -21,8 +21,8 @@ loop-again c = (search rules, below_more _ _ _ c.before.before.before.before.arg
 returns : tie.Need-returns invariant-loop decreases-loop
 returns c = λ k h. c.before.loop.invariant.1 k (omega (arith, h, c.loop-test.false))
 
-pub wake-all-spec : {M : Type 1} → statement M
-wake-all-spec =
+pub wake_all_spec : {M : Type 1} → statement M
+wake_all_spec =
     tie.close
     (tie.spec
     invariant-loop

@@ -32,7 +32,7 @@ loop-again c =
 loop-less : tie.Need-loop-smaller invariant-loop decreases-loop
 loop-less c = let l = c.before.before.loop.invariant.1 in omega (arith, c.before.loop-test.true)
 
-same_length : tie.Need-same-length invariant-loop decreases-loop
+same_length : tie.Need-same_length invariant-loop decreases-loop
 same_length c = c.before.loop.invariant.1
 
 returns : tie.Need-returns invariant-loop decreases-loop

@@ -5,19 +5,19 @@ use Rattle.room.proofs.count_asked.Statement.{statement}
 use Rattle.room.proofs.count_asked.Tie as tie
 
 returns : tie.Need-returns
-returns c = rw (← c.before.before.row-field2.ensures, eq-eqb _ _ c.before.if1.true, ← c.before.before.before.row_field.ensures) c.count-requests.ensures
+returns c = rw (← c.before.before.row_field2.ensures, eq-eqb _ _ c.before.if1.true, ← c.before.before.before.row_field.ensures) c.count_requests.ensures
 
 returns-2 : tie.Need-returns-2
-returns-2 c = rw (← c.before.before.before.before.row-field2.ensures, ne_eqb _ _ c.before.before.before.if1.false, ← c.before.before.row-field3.ensures, lt-leb _ _ c.if2.true)
+returns-2 c = rw (← c.before.before.before.before.row_field2.ensures, ne_eqb _ _ c.before.before.before.if1.false, ← c.before.before.row_field3.ensures, lt-leb _ _ c.if2.true)
 
 returns-3 : tie.Need-returns-3
-returns-3 c = rw (← c.before.before.before.before.before.before.row-field2.ensures, ne_eqb _ _ c.before.before.before.before.before.if1.false, ← c.before.before.before.before.row-field3.ensures, le-leb _ _ c.before.before.if2.false, eq-eqb _ _ c.if3.true)
+returns-3 c = rw (← c.before.before.before.before.before.before.row_field2.ensures, ne_eqb _ _ c.before.before.before.before.before.if1.false, ← c.before.before.before.before.row_field3.ensures, le-leb _ _ c.before.before.if2.false, eq-eqb _ _ c.if3.true)
 
 returns-4 : tie.Need-returns-4
-returns-4 c = rw (← c.before.before.before.before.before.before.row-field2.ensures, ne_eqb _ _ c.before.before.before.before.before.if1.false, ← c.before.before.before.before.row-field3.ensures, le-leb _ _ c.before.before.if2.false, ne_eqb _ _ c.if3.false)
+returns-4 c = rw (← c.before.before.before.before.before.before.row_field2.ensures, ne_eqb _ _ c.before.before.before.before.before.if1.false, ← c.before.before.before.before.row_field3.ensures, le-leb _ _ c.before.before.if2.false, ne_eqb _ _ c.if3.false)
 
-pub count-asked-spec : {M : Type 1} → statement M
-count-asked-spec =
+pub count_asked_spec : {M : Type 1} → statement M
+count_asked_spec =
     tie.close
     (tie.spec
     (λ c κs. search rules)

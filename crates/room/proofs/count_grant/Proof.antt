@@ -10,9 +10,9 @@ use Rattle.room.proofs.count_grant.Tie as tie
 
 returns : tie.Need-returns
 returns c = (
-  rw (c.before.before.start-task.ensures, c.before.before.before.row-field4.ensures, c.before.before.before.before.before.before.before.before.before.before.before.before.row_field.ensures)
-      (grant-starts _ _ _ _ _ (c.before.before.before.before.before.before.before.count-asked.result - 1) _
-      (rw (call-ready _ _ _ _ _ (rw c.before.before.before.before.before.before.before.before.before.before.before.before.row_field.ensures at (sym c.before.before.before.before.before.before.before.before.task-field.ensures ∙ c.before.before.before.before.before.before.if1.true)), ← c.before.before.before.before.before.before.before.count-asked.ensures, ne_eqb _ _ c.before.before.before.before.before.if2.true))
+  rw (c.before.before.start_task.ensures, c.before.before.before.row_field4.ensures, c.before.before.before.before.before.before.before.before.before.before.before.before.row_field.ensures)
+      (grant-starts _ _ _ _ _ (c.before.before.before.before.before.before.before.count_asked.result - 1) _
+      (rw (call-ready _ _ _ _ _ (rw c.before.before.before.before.before.before.before.before.before.before.before.before.row_field.ensures at (sym c.before.before.before.before.before.before.before.before.task_field.ensures ∙ c.before.before.before.before.before.before.if1.true)), ← c.before.before.before.before.before.before.before.count_asked.ensures, ne_eqb _ _ c.before.before.before.before.before.if2.true))
       (let n = c.before.before.before.before.before.if2.true in omega (arith, n))),
   omega arith,
 )
@@ -20,34 +20,34 @@ returns c = (
 returns-2 : tie.Need-returns-2
 returns-2 c = (
   grant-ignores _ _ _ _ _ _
-      (rw (call-ready _ _ _ _ _ (rw c.before.before.before.before.before.before.before.row_field.ensures at (sym c.before.before.before.task-field.ensures ∙ c.before.if1.true)), ← c.before.before.count-asked.ensures, eq-eqb _ _ c.if2.false)),
+      (rw (call-ready _ _ _ _ _ (rw c.before.before.before.before.before.before.before.row_field.ensures at (sym c.before.before.before.task_field.ensures ∙ c.before.if1.true)), ← c.before.before.count_asked.ensures, eq-eqb _ _ c.if2.false)),
   omega arith,
 )
 
 returns-3 : tie.Need-returns-3
 returns-3 c = (
   grant-ignores _ _ _ _ _ _
-      (rw (call-events _ _ _ _ _ (λ z. c.before.if1.false (c.before.before.before.task-field.ensures ∙ rw c.before.before.before.before.before.before.before.row_field.ensures z)) (sym c.before.before.before.before.before.before.row-field2.ensures ∙ c.if3.true), ← c.before.before.count-asked.ensures)),
+      (rw (call-events _ _ _ _ _ (λ z. c.before.if1.false (c.before.before.before.task_field.ensures ∙ rw c.before.before.before.before.before.before.before.row_field.ensures z)) (sym c.before.before.before.before.before.before.row_field2.ensures ∙ c.if3.true), ← c.before.before.count_asked.ensures)),
   omega arith,
 )
 
 returns-4 : tie.Need-returns-4
 returns-4 c = (
-  rw (c.before.before.reset-task.ensures, c.before.before.before.before.before.before.before.before.before.before.before.before.row_field.ensures)
+  rw (c.before.before.reset_task.ensures, c.before.before.before.before.before.before.before.before.before.before.before.before.row_field.ensures)
       (grant-fails _ _ _ _ _
-      (rw (call-periodic _ _ _ _ _ (λ z. c.before.before.before.before.before.before.if1.false (c.before.before.before.before.before.before.before.before.task-field.ensures ∙ rw c.before.before.before.before.before.before.before.before.before.before.before.before.row_field.ensures z)) (λ z. c.before.before.before.before.before.if3.false (c.before.before.before.before.before.before.before.before.before.before.before.row-field2.ensures ∙ z)), ← c.before.before.before.before.before.before.before.count-asked.ensures, ← c.before.before.before.before.before.before.before.before.before.before.before.before.row_field.ensures, ← c.before.before.before.before.before.before.before.before.before.before.row-field3.ensures, ← c.before.before.before.before.before.before.before.before.task-field.ensures, c.before.before.before.before.if4.true))),
+      (rw (call-periodic _ _ _ _ _ (λ z. c.before.before.before.before.before.before.if1.false (c.before.before.before.before.before.before.before.before.task_field.ensures ∙ rw c.before.before.before.before.before.before.before.before.before.before.before.before.row_field.ensures z)) (λ z. c.before.before.before.before.before.if3.false (c.before.before.before.before.before.before.before.before.before.before.before.row_field2.ensures ∙ z)), ← c.before.before.before.before.before.before.before.count_asked.ensures, ← c.before.before.before.before.before.before.before.before.before.before.before.before.row_field.ensures, ← c.before.before.before.before.before.before.before.before.before.before.row_field3.ensures, ← c.before.before.before.before.before.before.before.before.task_field.ensures, c.before.before.before.before.if4.true))),
   omega arith,
 )
 
 returns-5 : tie.Need-returns-5
 returns-5 c = (
   grant-ignores _ _ _ _ _ _
-      (rw (call-periodic _ _ _ _ _ (λ z. c.before.before.if1.false (c.before.before.before.before.task-field.ensures ∙ rw c.before.before.before.before.before.before.before.before.row_field.ensures z)) (λ z. c.before.if3.false (c.before.before.before.before.before.before.before.row-field2.ensures ∙ z)), ← c.before.before.before.count-asked.ensures, ← c.before.before.before.before.before.before.before.before.row_field.ensures, ← c.before.before.before.before.before.before.row-field3.ensures, ← c.before.before.before.before.task-field.ensures, c.if4.false)),
+      (rw (call-periodic _ _ _ _ _ (λ z. c.before.before.if1.false (c.before.before.before.before.task_field.ensures ∙ rw c.before.before.before.before.before.before.before.before.row_field.ensures z)) (λ z. c.before.if3.false (c.before.before.before.before.before.before.before.row_field2.ensures ∙ z)), ← c.before.before.before.count_asked.ensures, ← c.before.before.before.before.before.before.before.before.row_field.ensures, ← c.before.before.before.before.before.before.row_field3.ensures, ← c.before.before.before.before.task_field.ensures, c.if4.false)),
   omega arith,
 )
 
-pub count-grant-spec : {M : Type 1} → statement M
-count-grant-spec =
+pub count_grant_spec : {M : Type 1} → statement M
+count_grant_spec =
     tie.close
     (tie.spec
     (λ c κs. search rules)

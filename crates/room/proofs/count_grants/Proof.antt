@@ -22,17 +22,17 @@ loop-holds : tie.Need-loop-init invariant-loop decreases-loop
 loop-holds c = (refl, search rules, search rules, λ a e. sofar_none _ _ a _ e)
 
 add-sum : tie.Need-overflow-add-sum invariant-loop decreases-loop
-add-sum c = let s = c.before.before.before.before.before.loop.invariant.2 in let m = c.before.before.before.before.before.loop.invariant.1 in let p = c.before.before.before.before.before.before.before.before.before.requires in let n = c.before.before.count-grant.ensures.1 in omega arith
+add-sum c = let s = c.before.before.before.before.before.loop.invariant.2 in let m = c.before.before.before.before.before.loop.invariant.1 in let p = c.before.before.before.before.before.before.before.before.before.requires in let n = c.before.before.count_grant.ensures.1 in omega arith
 
 loop-again : tie.Need-loop-preserved invariant-loop decreases-loop
 loop-again c = (
   search rules,
   search rules,
-  let s = c.before.before.before.before.before.loop.invariant.2 in let n = c.before.before.count-grant.ensures.1 in omega arith,
-  λ a e. sofar_more _ _ a _ _ _ _ _ c.before.before.before.before.loop-test.true c.before.before.count-grant.ensures.0 (c.before.before.before.before.before.loop.invariant.3 a e),
+  let s = c.before.before.before.before.before.loop.invariant.2 in let n = c.before.before.count_grant.ensures.1 in omega arith,
+  λ a e. sofar_more _ _ a _ _ _ _ _ c.before.before.before.before.loop-test.true c.before.before.count_grant.ensures.0 (c.before.before.before.before.before.loop.invariant.3 a e),
 )
 
-same_length : tie.Need-same-length invariant-loop decreases-loop
+same_length : tie.Need-same_length invariant-loop decreases-loop
 same_length c = c.before.loop.invariant.0
 
 returns : tie.Need-returns invariant-loop decreases-loop
@@ -41,8 +41,8 @@ returns c = (
   let s = c.before.loop.invariant.2 in let m = c.before.loop.invariant.1 in let p = c.before.before.before.before.before.requires in omega arith,
 )
 
-pub count-grants-spec : {M : Type 1} → statement M
-count-grants-spec =
+pub count_grants_spec : {M : Type 1} → statement M
+count_grants_spec =
     tie.close
     (tie.spec
     invariant-loop

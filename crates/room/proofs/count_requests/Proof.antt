@@ -33,8 +33,8 @@ loop-again c = (
 returns : tie.Need-returns invariant-loop decreases-loop
 returns c = rw (c.before.loop.invariant.1, asks_done _ _ _ _ _ c.loop-test.false)
 
-pub count-requests-spec : {M : Type 1} → statement M
-count-requests-spec =
+pub count_requests_spec : {M : Type 1} → statement M
+count_requests_spec =
     tie.close
     (tie.spec
     invariant-loop

@@ -36,8 +36,8 @@ returns c = (
   let s = c.before.loop.invariant.1 in let m = c.before.loop.invariant.0 in let p = c.before.before.before.requires in omega arith,
 )
 
-pub most-entries-spec : {M : Type 1} → statement M
-most-entries-spec =
+pub most_entries_spec : {M : Type 1} → statement M
+most_entries_spec =
     tie.close
     (tie.spec
     invariant-loop

@@ -10,10 +10,10 @@ use Rattle.room.proofs.records_end.Tie as tie
 returns : tie.Need-returns
 returns c plan a e =
     ap (λ (n : ℕ). c.before.before.before.before.before.before.before.before.before.before.before.before.before.before.before.args.clock.at + 5 * n)
-    (step_counts (given plan c.before.before.before.before.before.before.before.before.before.before.before.before.before.before.before.args.rows.now c.before.before.before.before.before.before.before.before.before.before.before.before.before.before.before.args.count c.before.before.before.before.before.before.before.before.before.before.before.before.before.before.before.args.events.now) c.before.before.before.before.before.before.before.before.before.before.before.before.before.before.before.args.clock.tick c.before.before.before.before.before.before.before.before.before.before.before.before.before.before.before.args.clock.place c.before.before.before.before.before.before.before.before.before.before.before.before.before.before.before.args.last _ _ _ _ _ _ c.before.before.before.before.before.before.before.before.before.before.before.before.before.before.before.requires.1.0 c.before.before.before.before.before.before.before.count-lapses.ensures.0 c.before.before.before.before.count-grants.ensures.0 (c.before.count-writes.ensures.0 _ _) a (e ∙ sym c.before.before.before.before.before.before.before.before.before.before.copy.ensures))
+    (step_counts (given plan c.before.before.before.before.before.before.before.before.before.before.before.before.before.before.before.args.rows.now c.before.before.before.before.before.before.before.before.before.before.before.before.before.before.before.args.count c.before.before.before.before.before.before.before.before.before.before.before.before.before.before.before.args.events.now) c.before.before.before.before.before.before.before.before.before.before.before.before.before.before.before.args.clock.tick c.before.before.before.before.before.before.before.before.before.before.before.before.before.before.before.args.clock.place c.before.before.before.before.before.before.before.before.before.before.before.before.before.before.before.args.last _ _ _ _ _ _ c.before.before.before.before.before.before.before.before.before.before.before.before.before.before.before.requires.1.0 c.before.before.before.before.before.before.before.count_lapses.ensures.0 c.before.before.before.before.count_grants.ensures.0 (c.before.count_writes.ensures.0 _ _) a (e ∙ sym c.before.before.before.before.before.before.before.before.before.before.copy.ensures))
 
-pub records-end-spec : {M : Type 1} → statement M
-records-end-spec =
+pub records_end_spec : {M : Type 1} → statement M
+records_end_spec =
     tie.close
     (tie.spec
     (λ c. search rules)

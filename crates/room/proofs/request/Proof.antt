@@ -9,8 +9,8 @@ returns c = (rw (← c.before.before.word.ensures, ← c.before.word2.ensures, c
 returns-2 : tie.Need-returns-2
 returns-2 c = (rw (← c.before.before.word.ensures, ← c.before.word2.ensures, c.if1.false), omega arith)
 
-pub request-spec : {M : Type 1} → statement M
-request-spec =
+pub request_spec : {M : Type 1} → statement M
+request_spec =
     tie.close
     (tie.spec
     (λ c. search rules)

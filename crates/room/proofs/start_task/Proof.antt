@@ -6,8 +6,8 @@ use Rattle.room.proofs.start_task.Tie as tie
 returns : tie.Need-returns
 returns c = rw (c.before.before.put3.ensures, c.before.before.before.before.before.before.put2.ensures, c.before.before.before.before.before.before.before.before.before.before.put.ensures, add-zero)
 
-pub start-task-spec : {M : Type 1} → statement M
-start-task-spec =
+pub start_task_spec : {M : Type 1} → statement M
+start_task_spec =
     tie.close
     (tie.spec
     (λ c. search rules)

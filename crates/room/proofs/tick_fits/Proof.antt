@@ -24,10 +24,10 @@ returns : tie.Need-returns
 returns c plan a e = sym (bound_fits _ _ _ a _ _ _ _ c.before.before.before.before.before.before.requires.1.0 c.before.before.before.before.before.before.requires.1.1.1.0 c.if1.true)
 
 returns-2 : tie.Need-returns-2
-returns-2 c plan a e = rw (c.records-end.ensures plan a e)
+returns-2 c plan a e = rw (c.records_end.ensures plan a e)
 
-pub tick-fits-spec : {M : Type 1} → statement M
-tick-fits-spec =
+pub tick_fits_spec : {M : Type 1} → statement M
+tick_fits_spec =
     tie.close
     (tie.spec
     sub-asked

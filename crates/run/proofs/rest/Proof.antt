@@ -23,5 +23,5 @@ returns-2 c = (
   (rw c.before.before.before.pass.ensures.tasks (wakes_lowered _ _ _ _ _ c.before.before.before.before.before.before.before.before.before.before.args.wakes.now c.before.before.before.before.before.before.before.before.before.before.requires.1), rest_none _ _ _ _ _ c.before.before.before.pass.ensures.tasks),
 )
 
-pub rest-spec : {M : Type 1} → statement M
-rest-spec = tie.close (tie.spec returns (λ c κs. search rules) add-t16 (λ c. search rules) returns-2)
+pub rest_spec : {M : Type 1} → statement M
+rest_spec = tie.close (tie.spec returns (λ c κs. search rules) add-t16 (λ c. search rules) returns-2)

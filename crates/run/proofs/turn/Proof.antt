@@ -8,7 +8,7 @@ use Rattle.run.proofs.turn.Tie as tie
 cast-end-of : tie.Need-overflow-cast-end-of
 cast-end-of c = omega (arith, c.before.before.before.before.before.before.before.before.requires.0.events)
 
-end-of-requires : tie.Need-end-of-requires
+end-of-requires : tie.Need-end_of-requires
 end-of-requires c κs = (c.before.before.before.before.before.before.before.before.requires.0.place, c.before.before.before.before.before.before.before.before.requires.0.events)
 
 calls-requires : tie.Need-calls-requires
@@ -27,13 +27,13 @@ returns c = (
 one_more : (n : ℕ) → 0 < n → suc (n - 1) ≡ n
 one_more n h = omega arith
 
-tick-once-requires : tie.Need-tick-once-requires
+tick-once-requires : tie.Need-tick_once-requires
 tick-once-requires c κs = rw (c.before.before.before.before.before.before.before.before.before.before.rest.ensures.1.1 c.before.before.before.before.before.before.if1.false) (c.before.before.before.before.before.before.before.before.before.before.before.before.before.before.before.before.before.before.before.before.before.before.before.before.requires.0, (c.before.before.before.before.before.before.before.before.before.before.before.before.before.before.before.before.before.before.before.before.before.before.before.before.requires.1.0, (c.before.before.before.before.before.before.before.before.before.before.before.before.before.before.before.before.before.before.before.before.before.before.before.before.requires.1.1.0, (c.before.before.before.before.before.before.before.before.before.before.before.before.before.before.before.before.before.before.before.before.before.before.before.before.requires.1.1.1.0.0, (c.before.before.before.before.before.before.before.before.before.before.before.before.before.before.before.before.before.before.before.before.before.before.before.before.requires.1.1.1.1.0, (c.before.before.before.before.before.before.before.before.before.before.before.before.before.before.before.before.before.before.before.before.before.before.before.before.requires.1.1.1.1.1, (c.before.before.before.before.before.before.before.before.before.before.before.before.before.before.before.end_of_lem.ensures.0, c.before.before.before.before.before.before.before.before.before.before.before.before.before.calls.ensures)))))))
 
 returns-2 : tie.Need-returns-2
 returns-2 c = (
-  rw (one_more _ c.before.before.before.before.before.before.before.before.before.before.before.before.before.before.before.before.before.before.before.before.before.before.before.before.before.before.before.before.before.before.before.before.before.before.before.requires.1.1.1.0.1, c.before.before.before.before.before.before.before.before.before.before.before.before.before.before.before.before.before.before.before.before.before.rest.ensures.1.1 c.before.before.before.before.before.before.before.before.before.before.before.before.before.before.before.before.before.if1.false) at (c.before.before.before.before.before.before.before.before.before.before.tick-once.ensures.0 (c.before.before.before.before.before.before.before.before.before.before.before.before.before.before.before.before.before.before.before.before.before.before.before.before.before.before.before.before.before.before.before.before.before.before.before.args.left - 1)),
-  (λ f. let t = rw f at c.before.before.before.before.before.before.before.before.before.before.tick-once.ensures.1.0 in omega arith, c.before.before.before.before.before.before.before.before.before.before.tick-once.ensures.1.1),
+  rw (one_more _ c.before.before.before.before.before.before.before.before.before.before.before.before.before.before.before.before.before.before.before.before.before.before.before.before.before.before.before.before.before.before.before.before.before.before.before.requires.1.1.1.0.1, c.before.before.before.before.before.before.before.before.before.before.before.before.before.before.before.before.before.before.before.before.before.rest.ensures.1.1 c.before.before.before.before.before.before.before.before.before.before.before.before.before.before.before.before.before.if1.false) at (c.before.before.before.before.before.before.before.before.before.before.tick_once.ensures.0 (c.before.before.before.before.before.before.before.before.before.before.before.before.before.before.before.before.before.before.before.before.before.before.before.before.before.before.before.before.before.before.before.before.before.before.before.args.left - 1)),
+  (λ f. let t = rw f at c.before.before.before.before.before.before.before.before.before.before.tick_once.ensures.1.0 in omega arith, c.before.before.before.before.before.before.before.before.before.before.tick_once.ensures.1.1),
 )
 
 pub turn_spec : {M : Type 1} → statement M

@@ -5,7 +5,7 @@ use Rattle.state_fits.proofs.active_holds.Tie as tie
 
 returns : tie.Need-returns
 unfolding task_of
-returns c = rw (c.in-flight-holds.ensures, c.before.word.ensures)
+returns c = rw (c.in_flight_holds.ensures, c.before.word.ensures)
 
-pub active-holds-spec : {M : Type 1} → statement M
-active-holds-spec = tie.close (tie.spec (λ c κs. search rules) (λ c κs. search rules) returns)
+pub active_holds_spec : {M : Type 1} → statement M
+active_holds_spec = tie.close (tie.spec (λ c κs. search rules) (λ c κs. search rules) returns)

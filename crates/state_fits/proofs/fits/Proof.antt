@@ -22,17 +22,17 @@ returns c =
     rw (
       right,
       ← place,
-      ← placed.place-holds.ensures,
+      ← placed.place_holds.ensures,
       signals_length,
       ← signals.before.word2.ensures,
-      ← signals.zeros-from.ensures,
+      ← signals.zeros_from.ensures,
       tasks,
-      ← c.before.tasks-fit.ensures,
-      ← c.rest-idle.ensures,
+      ← c.before.tasks_fit.ensures,
+      ← c.rest_idle.ensures,
     )
 
-pub fits-spec : {M : Type 1} → statement M
-fits-spec =
+pub fits_spec : {M : Type 1} → statement M
+fits_spec =
     tie.close
     (tie.spec
     (λ c κs. search rules)

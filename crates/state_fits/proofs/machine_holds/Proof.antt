@@ -7,5 +7,5 @@ returns : tie.Need-returns
 unfolding task_of
 returns c = rw c.word.ensures
 
-pub machine-holds-spec : {M : Type 1} → statement M
-machine-holds-spec = tie.close (tie.spec (λ c κs. search rules) returns)
+pub machine_holds_spec : {M : Type 1} → statement M
+machine_holds_spec = tie.close (tie.spec (λ c κs. search rules) returns)

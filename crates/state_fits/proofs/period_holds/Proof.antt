@@ -16,8 +16,8 @@ returns-3 : tie.Need-returns-3
 unfolding task_of
 returns-3 c = rw (← c.before.before.before.word.ensures, ne_eqb _ _ c.before.before.if1.false, ← c.before.word2.ensures, le-leb _ _ c.if2.false)
 
-pub period-holds-spec : {M : Type 1} → statement M
-period-holds-spec =
+pub period_holds_spec : {M : Type 1} → statement M
+period_holds_spec =
     tie.close
     (tie.spec
     (λ c κs. search rules)

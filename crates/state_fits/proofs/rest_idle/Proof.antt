@@ -17,13 +17,13 @@ abbrev decreases-loop : tie.decreases-loop
 decreases-loop count tasks good₀ i₀ good i = max_tasks - i
 
 loop-again : tie.Need-loop-preserved invariant-loop decreases-loop
-loop-again c = rw (c.before.before.before.loop.invariant, all_more _ _ _ _ _ c.before.before.loop-test.true, c.is-idle.ensures)
+loop-again c = rw (c.before.before.before.loop.invariant, all_more _ _ _ _ _ c.before.before.loop-test.true, c.is_idle.ensures)
 
 returns : tie.Need-returns invariant-loop decreases-loop
 returns c = sym (rw c.before.loop.invariant (all_done _ _ _ _ _ c.loop-test.false))
 
-pub rest-idle-spec : {M : Type 1} → statement M
-rest-idle-spec =
+pub rest_idle_spec : {M : Type 1} → statement M
+rest_idle_spec =
     tie.close
     (tie.spec
     invariant-loop

@@ -6,16 +6,16 @@ returns : tie.Need-returns
 returns c = rw c.enum_told.given.1
 
 returns-2 : tie.Need-returns-2
-returns-2 c = rw c.before.enum-told2.given.1 c.active-holds.ensures
+returns-2 c = rw c.before.enum_told2.given.1 c.active_holds.ensures
 
 returns-3 : tie.Need-returns-3
-returns-3 c = rw c.before.enum-told3.given.1 c.finished-holds.ensures
+returns-3 c = rw c.before.enum_told3.given.1 c.finished_holds.ensures
 
 returns-4 : tie.Need-returns-4
-returns-4 c = rw c.enum-told4.given.1
+returns-4 c = rw c.enum_told4.given.1
 
-pub status-holds-spec : {M : Type 1} → statement M
-status-holds-spec =
+pub status_holds_spec : {M : Type 1} → statement M
+status_holds_spec =
     tie.close
     (tie.spec
     (λ c. search rules)

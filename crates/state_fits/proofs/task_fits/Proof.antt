@@ -11,18 +11,18 @@ returns c =
     let latched = held.before.before.before.before.before in
     let status = latched.before.before.before.before.before in
     rw (
-      status.status-holds.ensures,
-      latched.zeros-from.ensures,
-      held.zeros-from2.ensures,
-      c.machine-holds.ensures,
+      status.status_holds.ensures,
+      latched.zeros_from.ensures,
+      held.zeros_from2.ensures,
+      c.machine_holds.ensures,
       latched.before.word.ensures,
       held.before.word2.ensures,
       inputs_length,
       outputs_length,
     )
 
-pub task-fits-spec : {M : Type 1} → statement M
-task-fits-spec =
+pub task_fits_spec : {M : Type 1} → statement M
+task_fits_spec =
     tie.close
     (tie.spec
     (λ c κs. search rules)

@@ -37,15 +37,15 @@ loop-again c =
       loop.loop.invariant,
       all_more _ _ _ _ _ turn.loop-test.true,
       in_plan _ start.args.tick _ _ less,
-      c.task-fits.ensures,
-      c.before.task-part.ensures,
+      c.task_fits.ensures,
+      c.before.task_part.ensures,
     )
 
 returns : tie.Need-returns invariant-loop decreases-loop
 returns c = sym (rw c.before.loop.invariant (all_done _ _ _ _ _ c.loop-test.false))
 
-pub tasks-fit-spec : {M : Type 1} → statement M
-tasks-fit-spec =
+pub tasks_fit_spec : {M : Type 1} → statement M
+tasks_fit_spec =
     tie.close
     (tie.spec
     invariant-loop

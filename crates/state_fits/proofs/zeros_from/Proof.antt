@@ -22,8 +22,8 @@ loop-again c = rw (c.before.before.loop.invariant, from_more {A = ℕ} _ 0 _ _ _
 returns : tie.Need-returns invariant-loop decreases-loop
 returns c = rw (c.before.loop.invariant, from_done {A = ℕ} _ 0 _ _ _ c.loop-test.false)
 
-pub zeros-from-spec : {M : Type 1} → statement M
-zeros-from-spec =
+pub zeros_from_spec : {M : Type 1} → statement M
+zeros_from_spec =
     tie.close
     (tie.spec
     invariant-loop

@@ -21,13 +21,13 @@ loop-holds : tie.Need-loop-init invariant-loop decreases-loop
 loop-holds c = (search rules, fill_none _ _ _ _)
 
 loop-again : tie.Need-loop-preserved invariant-loop decreases-loop
-loop-again c = (search rules, rw c.initial-output.ensures (fill_more _ _ _ _ _ c.before.loop-test.true c.before.before.loop.invariant.1))
+loop-again c = (search rules, rw c.initial_output.ensures (fill_more _ _ _ _ _ c.before.loop-test.true c.before.before.loop.invariant.1))
 
 returns : tie.Need-returns invariant-loop decreases-loop
 returns c = fill_done _ _ _ _ _ c.loop-test.false c.before.loop.invariant.1
 
-pub fresh-outputs-spec : {M : Type 1} → statement M
-fresh-outputs-spec =
+pub fresh_outputs_spec : {M : Type 1} → statement M
+fresh_outputs_spec =
     tie.close
     (tie.spec
     invariant-loop

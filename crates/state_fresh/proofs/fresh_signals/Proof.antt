@@ -18,13 +18,13 @@ loop-holds : tie.Need-loop-init invariant-loop decreases-loop
 loop-holds c = (search rules, fill_none _ _ _ _)
 
 loop-again : tie.Need-loop-preserved invariant-loop decreases-loop
-loop-again c = (search rules, rw c.initial-value.ensures (fill_more _ _ _ _ _ c.before.loop-test.true c.before.before.loop.invariant.1))
+loop-again c = (search rules, rw c.initial_value.ensures (fill_more _ _ _ _ _ c.before.loop-test.true c.before.before.loop.invariant.1))
 
 returns : tie.Need-returns invariant-loop decreases-loop
 returns c = fill_done _ _ _ _ _ c.loop-test.false c.before.loop.invariant.1
 
-pub fresh-signals-spec : {M : Type 1} → statement M
-fresh-signals-spec =
+pub fresh_signals_spec : {M : Type 1} → statement M
+fresh_signals_spec =
     tie.close
     (tie.spec
     invariant-loop

@@ -25,10 +25,10 @@ loop-again c = (search rules, rw (c.fresh_at.ensures, ← fresh-task_at) (fill_m
 
 returns : tie.Need-returns invariant-loop decreases-loop
 unfolding fresh
-returns c = rw (fill_done _ _ _ _ _ c.loop-test.false c.before.loop.invariant.1, c.before.before.before.fresh-signals.ensures)
+returns c = rw (fill_done _ _ _ _ _ c.loop-test.false c.before.loop.invariant.1, c.before.before.before.fresh_signals.ensures)
 
-pub fresh-state-spec : {M : Type 1} → statement M
-fresh-state-spec =
+pub fresh_state_spec : {M : Type 1} → statement M
+fresh_state_spec =
     tie.close
     (tie.spec
     invariant-loop

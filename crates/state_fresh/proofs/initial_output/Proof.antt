@@ -5,13 +5,13 @@ use Rattle.state_fresh.proofs.initial_output.Statement.{statement}
 use Rattle.state_fresh.proofs.initial_output.Tie as tie
 
 returns : tie.Need-returns
-returns c = rw (c.initial-value.ensures, c.before.word2.ensures, c.before.before.outputs-at.ensures.0) (sym (output_in _ _ _ (rw c.before.before.before.before.word.ensures at c.before.before.before.if1.true)))
+returns c = rw (c.initial_value.ensures, c.before.word2.ensures, c.before.before.outputs_at.ensures.0) (sym (output_in _ _ _ (rw c.before.before.before.before.word.ensures at c.before.before.before.if1.true)))
 
 returns-2 : tie.Need-returns-2
 returns-2 c = sym (output_out _ _ _ (rw c.before.word.ensures at c.if1.false))
 
-pub initial-output-spec : {M : Type 1} → statement M
-initial-output-spec =
+pub initial_output_spec : {M : Type 1} → statement M
+initial_output_spec =
     tie.close
     (tie.spec
     (λ c κs. search rules)

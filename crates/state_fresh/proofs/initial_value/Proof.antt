@@ -10,7 +10,7 @@ returns c = rw (c.word2.ensures, c.before.start_of_lem.ensures) (sym (value_in _
 returns-2 : tie.Need-returns-2
 returns-2 c = sym (value_out _ _ (rw c.before.word.ensures at c.if1.false))
 
-pub initial-value-spec : {M : Type 1} → statement M
-initial-value-spec =
+pub initial_value_spec : {M : Type 1} → statement M
+initial_value_spec =
     tie.close
     (tie.spec (λ c κs. search rules) (λ c κs. search rules) (λ c. search rules) (λ c. search rules) (λ c κs. search rules) returns returns-2)

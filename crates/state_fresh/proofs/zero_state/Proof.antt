@@ -5,7 +5,7 @@ use Rattle.state_fresh.proofs.zero_state.Tie as tie
 
 returns : tie.Need-returns
 unfolding zero_state
-returns c = rw c.idle-task.ensures
+returns c = rw c.idle_task.ensures
 
-pub zero-state-spec : {M : Type 1} → statement M
-zero-state-spec = tie.close (tie.spec (λ c κs. search rules) returns)
+pub zero_state_spec : {M : Type 1} → statement M
+zero_state_spec = tie.close (tie.spec (λ c κs. search rules) returns)

@@ -6,7 +6,7 @@ use Rattle.step.proofs.Laws.{three_over, three_end}
 use Rattle.step.proofs.step.Statement.{statement}
 use Rattle.step.proofs.step.Tie as tie
 
-run-urgent-requires : tie.Need-run-urgent-requires
+run-urgent-requires : tie.Need-run_urgent-requires
 run-urgent-requires c κs =
     let a = c.before.before.before.before.before.before.before.before.before.before.before.before.before.before.before.before.before.before.before.before.before.before.deadlines.ensures.1 in
     let b = c.before.before.before.before.before.before.before.before.before.before.before.releases.ensures.1 in
@@ -16,21 +16,21 @@ run-urgent-requires c κs =
 add-t48 : tie.Need-overflow-add-t48
 add-t48 c = let p = c.before.before.before.before.before.before.before.before.before.before.before.before.before.before.before.before.before.before.before.before.before.before.before.before.before.before.before.before.before.before.before.before.before.before.before.before.before.before.before.before.before.before.before.before.before.before.before.before.requires.0 in omega (arith, p.tick)
 
-same_length : tie.Need-same-length
-same_length c = c.before.before.before.before.before.before.before.before.run-urgent.auto.1.1.1.1.0 ∙ c.before.before.before.before.before.before.before.before.before.before.before.before.before.before.before.before.before.before.before.before.before.before.before.before.before.before.before.before.before.before.before.deadlines.auto.1.1.1.1.1.0 ∙ c.before.before.before.before.before.before.before.before.before.before.before.before.before.before.before.before.before.before.before.before.before.before.before.before.before.before.before.before.before.before.before.before.before.before.before.before.before.before.set-signals.auto.1.1.1.0
+same_length : tie.Need-same_length
+same_length c = c.before.before.before.before.before.before.before.before.run_urgent.auto.1.1.1.1.0 ∙ c.before.before.before.before.before.before.before.before.before.before.before.before.before.before.before.before.before.before.before.before.before.before.before.before.before.before.before.before.before.before.before.deadlines.auto.1.1.1.1.1.0 ∙ c.before.before.before.before.before.before.before.before.before.before.before.before.before.before.before.before.before.before.before.before.before.before.before.before.before.before.before.before.before.before.before.before.before.before.before.before.before.before.set_signals.auto.1.1.1.0
 
 returns : tie.Need-returns
 unfolding step_called
 returns c =
     let e₁ = c.before.before.before.before.before.before.before.before.before.before.before.before.before.before.before.before.before.before.before.before.before.before.before.before.before.before.before.before.before.before.before.deadlines.ensures.0 c.before.before.before.before.before.before.before.before.before.before.before.before.before.before.before.before.before.before.before.before.before.before.before.before.before.before.before.before.before.before.before.before.before.before.before.before.before.before.before.before.before.before.before.before.before.before.before.before.args.latched.now in
     let e₂ = c.before.before.before.before.before.before.before.before.before.before.before.before.before.before.before.before.before.before.before.before.releases.ensures.0 c.before.before.before.before.before.before.before.before.before.before.before.before.before.before.before.before.before.before.before.before.before.before.before.before.before.before.before.before.before.before.before.before.before.before.before.before.before.before.before.before.before.before.before.before.before.before.before.before.args.held.now in
-    let e₃ = c.before.before.before.before.before.before.before.before.run-urgent.ensures.0 in
+    let e₃ = c.before.before.before.before.before.before.before.before.run_urgent.ensures.0 in
     let last = c.before.before.before.before.before.before.before.before.before.before.before.before.before.before.before.before.before.before.before.before.before.before.before.before.before.before.before.before.before.before.before.before.before.before.before.before.before.before.before.before.before.before.before.before.before.before.before.before.requires.1.0 in
     let same = c.before.before.before.before.before.before.before.before.before.before.before.before.before.before.before.before.before.before.before.before.before.before.before.before.before.before.before.before.before.before.before.before.before.before.before.before.before.before.before.before.before.before.before.before.before.before.before.before.requires.1.1.0 in
-    let set = c.before.before.before.before.before.before.before.before.before.before.before.before.before.before.before.before.before.before.before.before.before.before.before.before.before.before.before.before.before.before.before.before.before.before.before.before.before.before.set-signals.ensures in
+    let set = c.before.before.before.before.before.before.before.before.before.before.before.before.before.before.before.before.before.before.before.before.before.before.before.before.before.before.before.before.before.before.before.before.before.before.before.before.before.before.set_signals.ensures in
     let n₁ = c.before.before.before.before.before.before.before.before.before.before.before.before.before.before.before.before.before.before.before.before.before.before.before.before.before.before.before.before.before.before.before.deadlines.ensures.1 in
     let n₂ = c.before.before.before.before.before.before.before.before.before.before.before.before.before.before.before.before.before.before.before.before.releases.ensures.1 in
-    let n₃ = c.before.before.before.before.before.before.before.before.run-urgent.ensures.1 in (
+    let n₃ = c.before.before.before.before.before.before.before.before.run_urgent.ensures.1 in (
       record {
         arrays = rw (← same, ← last, ← set, ← e₁.arrays, ← e₂.arrays) e₃.arrays;
         trace = rw (← same, ← last, ← set, ← e₁.arrays, ← e₂.arrays, three_over, ← e₁.trace, ← e₁.ends, ← e₂.trace, ← e₂.ends) e₃.trace;

@@ -51,7 +51,7 @@ loop-holds c =
       sofar = λ latched. sofar_next _ _ _ _ _ _ _ _ _ _ _ (next_from _ 0 _ e) (next_below _ 0 _ e) (sofar_none _ _ _ _ _);
     }
 
-lapse-row-requires : tie.Need-lapse-row-requires invariant-loop decreases-loop
+lapse-row-requires : tie.Need-lapse_row-requires invariant-loop decreases-loop
 lapse-row-requires c κs = let r = c.before.before.before.before.loop.invariant.room in let m = c.before.before.before.before.loop.invariant.most in omega arith
 
 loop-less : tie.Need-loop-smaller invariant-loop decreases-loop
@@ -63,7 +63,7 @@ loop-again c =
     let r = s.room in
     let p = s.passed in
     let l = c.before.before.before.before.before.before.before.before.before.before.before.loop-test.true in
-    let near = c.before.before.before.before.before.before.before.lapse-row.ensures.1 in
+    let near = c.before.before.before.before.before.before.before.lapse_row.ensures.1 in
     let e = c.next2.ensures in
     let m = next_from _ _ _ e in
     record {
@@ -76,17 +76,17 @@ loop-again c =
       tasks-long = search rules;
       trace_long = search rules;
       sofar = λ latched.
-          let d = c.before.before.before.before.before.before.before.lapse-row.ensures.0 latched in
+          let d = c.before.before.before.before.before.before.before.lapse_row.ensures.0 latched in
           sofar_next _ _ _ _ _ _ _ _ _ _ _ m (next_below _ _ _ e) (rw (d.arrays, d.trace, d.ends) (sofar_called _ _ _ _ _ _ _ _ _ _ l (s.here l) (s.sofar latched)));
     }
 
-same_length : tie.Need-same-length invariant-loop decreases-loop
+same_length : tie.Need-same_length invariant-loop decreases-loop
 same_length c = c.before.loop.invariant.signals-long
 
-same-length-2 : tie.Need-same-length-2 invariant-loop decreases-loop
+same-length-2 : tie.Need-same_length-2 invariant-loop decreases-loop
 same-length-2 c = c.before.loop.invariant.tasks-long
 
-same-length-3 : tie.Need-same-length-3 invariant-loop decreases-loop
+same-length-3 : tie.Need-same_length-3 invariant-loop decreases-loop
 same-length-3 c = c.before.loop.invariant.trace_long
 
 returns : tie.Need-returns invariant-loop decreases-loop
@@ -99,8 +99,8 @@ returns c = (
   let r = c.before.loop.invariant.room in let m = c.before.loop.invariant.most in omega arith,
 )
 
-pub deadlines-spec : {M : Type 1} → statement M
-deadlines-spec =
+pub deadlines_spec : {M : Type 1} → statement M
+deadlines_spec =
     tie.close
     (tie.spec
     invariant-loop

@@ -35,8 +35,8 @@ loop-again c = (
 returns-2 : tie.Need-returns-2 invariant-loop decreases-loop
 returns-2 c = (rw (c.before.loop.invariant.2, end_done _ _ _ _ c.loop-test.false), (c.before.loop.invariant.0, c.before.loop.invariant.1))
 
-pub end-of-spec : {M : Type 1} → statement M
-end-of-spec =
+pub end_of_spec : {M : Type 1} → statement M
+end_of_spec =
     tie.close
     (tie.spec
     invariant-loop

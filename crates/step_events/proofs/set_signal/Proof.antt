@@ -9,8 +9,8 @@ returns c = rw (← c.before.before.before.before.before.before.before.word.ensu
 returns-2 : tie.Need-returns-2
 returns-2 c = rw (← c.before.word.ensures, ne_eqb _ _ c.if1.false)
 
-pub set-signal-spec : {M : Type 1} → statement M
-set-signal-spec =
+pub set_signal_spec : {M : Type 1} → statement M
+set_signal_spec =
     tie.close
     (tie.spec
     (λ c. search rules)

@@ -22,18 +22,18 @@ loop-holds c = (refl, refl)
 
 loop-again : tie.Need-loop-preserved invariant-loop decreases-loop
 loop-again c = (
-  c.before.before.set-signal.auto.1.1.0 ∙ c.before.before.before.before.before.loop.invariant.0,
-  rw (c.before.before.before.before.before.loop.invariant.1, set_more _ _ _ _ c.before.before.before.before.loop-test.true, c.before.before.set-signal.ensures),
+  c.before.before.set_signal.auto.1.1.0 ∙ c.before.before.before.before.before.loop.invariant.0,
+  rw (c.before.before.before.before.before.loop.invariant.1, set_more _ _ _ _ c.before.before.before.before.loop-test.true, c.before.before.set_signal.ensures),
 )
 
-same_length : tie.Need-same-length invariant-loop decreases-loop
+same_length : tie.Need-same_length invariant-loop decreases-loop
 same_length c = c.before.loop.invariant.0
 
 returns : tie.Need-returns invariant-loop decreases-loop
 returns c = rw (c.before.loop.invariant.1, set_done _ _ _ _ c.loop-test.false)
 
-pub set-signals-spec : {M : Type 1} → statement M
-set-signals-spec =
+pub set_signals_spec : {M : Type 1} → statement M
+set_signals_spec =
     tie.close
     (tie.spec
     invariant-loop

@@ -31,7 +31,7 @@ loop-again c =
       rw (c.before.before.before.before.before.loop.invariant.3, copies_more _ _ _ c.before.before.before.before.loop-test.true, c.before.before.put.ensures),
     )
 
-same_length : tie.Need-same-length invariant-loop decreases-loop
+same_length : tie.Need-same_length invariant-loop decreases-loop
 same_length c = c.before.loop.invariant.2
 
 returns : tie.Need-returns invariant-loop decreases-loop
@@ -40,8 +40,8 @@ returns c =
     let e = c.before.loop.invariant.1 in
     record { trace = rw (c.before.loop.invariant.3, copies_done _ _ _ c.loop-test.false); ends = omega arith }
 
-pub ignore-spec : {M : Type 1} → statement M
-ignore-spec =
+pub ignore_spec : {M : Type 1} → statement M
+ignore_spec =
     tie.close
     (tie.spec
     invariant-loop

@@ -24,17 +24,17 @@ loop-again : tie.Need-loop-preserved invariant-loop decreases-loop
 loop-again c = (
   search rules,
   rw c.before.before.put.ensures (simp length-set c.before.before.before.before.before.before.loop.invariant.1),
-  rw (c.before.before.before.before.before.before.loop.invariant.2, latch-more _ _ _ _ _ _ c.before.before.before.before.before.loop-test.true, ← c.before.before.before.before.before.before.before.row_field.ensures, ← c.before.before.before.before.latched-at.ensures, c.before.before.put.ensures),
+  rw (c.before.before.before.before.before.before.loop.invariant.2, latch-more _ _ _ _ _ _ c.before.before.before.before.before.loop-test.true, ← c.before.before.before.before.before.before.before.row_field.ensures, ← c.before.before.before.before.latched_at.ensures, c.before.before.put.ensures),
 )
 
-same_length : tie.Need-same-length invariant-loop decreases-loop
+same_length : tie.Need-same_length invariant-loop decreases-loop
 same_length c = c.before.loop.invariant.1
 
 returns : tie.Need-returns invariant-loop decreases-loop
 returns c = rw (c.before.loop.invariant.2, latch-done _ _ _ _ _ _ c.loop-test.false)
 
-pub latch-row-spec : {M : Type 1} → statement M
-latch-row-spec =
+pub latch_row_spec : {M : Type 1} → statement M
+latch_row_spec =
     tie.close
     (tie.spec
     invariant-loop

@@ -9,8 +9,8 @@ returns c = rw (← c.before.before.before.row_field.ensures, lt-ltb _ _ c.befor
 returns-2 : tie.Need-returns-2
 returns-2 c = rw (← c.before.row_field.ensures, le-ltb _ _ c.if1.false)
 
-pub latched-at-spec : {M : Type 1} → statement M
-latched-at-spec =
+pub latched_at_spec : {M : Type 1} → statement M
+latched_at_spec =
     tie.close
     (tie.spec
     (λ c κs. search rules)

@@ -14,15 +14,15 @@ unfolding answer_row over
 returns c = (
   λ held.
       record {
-        arrays = rw (c.before.before.before.before.before.before.before.before.before.before.before.before.start-row.ensures.tasks, c.before.before.before.before.before.before.before.before.before.before.before.before.start-row.ensures.latched);
+        arrays = rw (c.before.before.before.before.before.before.before.before.before.before.before.before.start_row.ensures.tasks, c.before.before.before.before.before.before.before.before.before.before.before.before.start_row.ensures.latched);
         trace = rw (← c.before.before.before.before.before.before.before.before.before.before.before.before.before.before.before.row_field.ensures) (c.before.before.ignore.ensures.trace ∙ ap (λ (l : List ℕ). over l (c.before.before.before.before.before.before.before.before.before.before.before.before.before.before.before.before.before.before.before.before.before.args.from + 5) (replicate (c.before.before.before.before.before.before.before.before.before.before.before.before.before.before.before.before.before.before.before.before.before.args.asked - 1) (entry c.before.before.before.before.before.before.before.before.before.before.before.before.before.before.before.before.before.before.before.before.before.args.t ignored_kind c.before.before.before.before.before.before.before.before.before.before.before.before.before.before.before.row_field.result))) c.before.before.before.before.before.before.put.ensures);
         ends = simp length-replicate (let e = c.before.before.ignore.ensures.ends in omega arith);
       },
   let e = c.before.before.ignore.ensures.ends in omega arith,
 )
 
-pub release-row-spec : {M : Type 1} → statement M
-release-row-spec =
+pub release_row_spec : {M : Type 1} → statement M
+release_row_spec =
     tie.close
     (tie.spec
     (λ c κs. search rules)

@@ -21,19 +21,19 @@ loop-holds : tie.Need-loop-init invariant-loop decreases-loop
 loop-holds c = (search rules, rw zero-add)
 
 add-n : tie.Need-overflow-add-n invariant-loop decreases-loop
-add-n c = let b = c.before.before.before.before.loop.invariant.0 in let o = c.one-if.ensures.1 in omega arith
+add-n c = let b = c.before.before.before.before.loop.invariant.0 in let o = c.one_if.ensures.1 in omega arith
 
 loop-again : tie.Need-loop-preserved invariant-loop decreases-loop
 loop-again c = (
-  let b = c.before.before.before.before.loop.invariant.0 in let o = c.one-if.ensures.1 in omega arith,
-  rw (c.before.before.before.before.loop.invariant.1, asks_more _ _ _ _ _ c.before.before.before.loop-test.true, c.one-if.ensures.0, c.before.before.word.ensures, c.before.word2.ensures),
+  let b = c.before.before.before.before.loop.invariant.0 in let o = c.one_if.ensures.1 in omega arith,
+  rw (c.before.before.before.before.loop.invariant.1, asks_more _ _ _ _ _ c.before.before.before.loop-test.true, c.one_if.ensures.0, c.before.before.word.ensures, c.before.word2.ensures),
 )
 
 returns : tie.Need-returns invariant-loop decreases-loop
 returns c = rw (c.before.loop.invariant.1, asks_done _ _ _ _ _ c.loop-test.false)
 
-pub requests-of-spec : {M : Type 1} → statement M
-requests-of-spec =
+pub requests_of_spec : {M : Type 1} → statement M
+requests_of_spec =
     tie.close
     (tie.spec
     invariant-loop

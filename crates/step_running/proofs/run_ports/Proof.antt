@@ -8,8 +8,8 @@ returns c =
     ran _ _ _ _ _ c.before.before.before.before.before.before.before.before.smaller.ensures c.before.before.before.before.before.before.before.smaller2.ensures
     c.before.before.before.before.before.before.smaller3.ensures c.before.before.before.before.before.smaller4.ensures _ _ c.before.before.run_lent.ensures
 
-pub run-ports-spec : {M : Type 1} → statement M
-run-ports-spec =
+pub run_ports_spec : {M : Type 1} → statement M
+run_ports_spec =
     tie.close
     (tie.spec
     (λ c. search rules)

@@ -7,19 +7,19 @@ use borrow.Author.Rules.{rules}
 use Rattle.step_running.proofs.run_urgent.Statement.{statement}
 use Rattle.step_running.proofs.run_urgent.Tie as tie
 
-work-row-requires : tie.Need-work-row-requires
+work-row-requires : tie.Need-work_row-requires
 work-row-requires c κs = (omega arith, c.before.before.before.before.before.before.before.before.before.before.before.before.before.before.requires.1 _ c.before.before.before.before.if1.true)
 
 returns : tie.Need-returns
 unfolding runs_flat
-returns c = (rw (← c.before.before.before.before.before.before.before.before.before.before.before.before.before.before.running-row.ensures, lt-ltb _ _ c.before.before.before.before.before.before.before.before.before.before.before.before.before.if1.true) c.before.before.before.before.before.before.before.before.work-row.ensures.0, c.before.before.before.before.before.before.before.before.work-row.ensures.1)
+returns c = (rw (← c.before.before.before.before.before.before.before.before.before.before.before.before.before.before.running_row.ensures, lt-ltb _ _ c.before.before.before.before.before.before.before.before.before.before.before.before.before.if1.true) c.before.before.before.before.before.before.before.before.work_row.ensures.0, c.before.before.before.before.before.before.before.before.work_row.ensures.1)
 
 returns-2 : tie.Need-returns-2
 unfolding runs_flat over
-returns-2 c = (rw (← c.before.running-row.ensures, le-ltb _ _ c.if1.false) (record { arrays = refl; trace = refl; ends = omega arith }), omega arith)
+returns-2 c = (rw (← c.before.running_row.ensures, le-ltb _ _ c.if1.false) (record { arrays = refl; trace = refl; ends = omega arith }), omega arith)
 
-pub run-urgent-spec : {M : Type 1} → statement M
-run-urgent-spec =
+pub run_urgent_spec : {M : Type 1} → statement M
+run_urgent_spec =
     tie.close
     (tie.spec
     (λ c κs. search rules)

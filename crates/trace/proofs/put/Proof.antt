@@ -13,16 +13,16 @@ returns c =
     let room : length c.before.args.trace.now < c.before.args.at + 5 = omega arith in
     rw (lt-leb _ _ room)
 
-slice-write-trace-2 : tie.Need-slice-write-trace-2
+slice-write-trace-2 : tie.Need-slice_write-trace-2
 slice-write-trace-2 c = simp length-set (omega arith)
 
-slice-write-trace-3 : tie.Need-slice-write-trace-3
+slice-write-trace-3 : tie.Need-slice_write-trace-3
 slice-write-trace-3 c = simp length-set (omega arith)
 
-slice-write-trace-4 : tie.Need-slice-write-trace-4
+slice-write-trace-4 : tie.Need-slice_write-trace-4
 slice-write-trace-4 c = simp length-set (omega arith)
 
-slice-write-trace-5 : tie.Need-slice-write-trace-5
+slice-write-trace-5 : tie.Need-slice_write-trace-5
 slice-write-trace-5 c = simp length-set (omega arith)
 
 returns-2 : tie.Need-returns-2

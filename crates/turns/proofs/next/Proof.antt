@@ -13,5 +13,5 @@ add-result c = let z = trailing_le 32 (c.args.calls / 2 ^ c.args.from) in omega 
 returns : tie.Need-returns
 returns c = sym (next_is _ _ (search rules))
 
-pub next-spec : {M : Type 1} → statement M
-next-spec = tie.close (tie.spec (λ c. search rules) add-result returns)
+pub next_spec : {M : Type 1} → statement M
+next_spec = tie.close (tie.spec (λ c. search rules) add-result returns)

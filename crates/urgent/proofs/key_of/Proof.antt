@@ -12,5 +12,5 @@ returns-2 : tie.Need-returns-2
 unfolding key_of
 returns-2 c = rw (ne_eqb _ _ c.if1.false)
 
-pub key-of-spec : {M : Type 1} → statement M
-key-of-spec = tie.close (tie.spec returns returns-2)
+pub key_of_spec : {M : Type 1} → statement M
+key_of_spec = tie.close (tie.spec returns returns-2)

@@ -233,9 +233,9 @@ module _ {M : Type 1} {𝓤 : Ura M} (𝓛 : Logic 𝓤) (mem : Memory → SProp
   urgent-meets : Meets 𝓛 urgent.signature (WpFn 𝓤 H 𝓣.C 𝓣.Λ code.function) (urgent.spec 𝓛 mem run)
   urgent-meets = walk_Meets 𝓛 urgent.ended stayed (Goes-none_slice 𝓛 1 (0 ∷ []) tt (plain (λ _. T.the_row)) yes, tt) (urgent.clauses 𝓛 mem run) (WpFn 𝓤 H 𝓣.C 𝓣.Λ code.function) (WpFn-mono 𝓤 H 𝓛.laws 𝓣 code.function) urgent-walks
 
-pub most-urgent-spec : {M : Type 1} → stated.statement M
+pub most_urgent_spec : {M : Type 1} → stated.statement M
 unfolding code.routine tables_of
-most-urgent-spec 𝓤 𝓛 𝓜 𝓡 =
+most_urgent_spec 𝓤 𝓛 𝓜 𝓡 =
     entered 𝓤 𝓛.H (triple_of 𝓛 urgent.signature (urgent.spec 𝓛 𝓜.mem 𝓡.run))
     (tables 𝓤 𝓛.H 𝓜 𝓡 code.env).C (tables 𝓤 𝓛.H 𝓜 𝓡 code.env).Λ #urgent·most-urgent code.function (code.unfolded 𝓤 𝓛.H 𝓜 𝓡)
     (urgent-meets 𝓛 𝓜.mem 𝓡.run (tables_of 𝓤 𝓛.H 𝓜 (tables 𝓤 𝓛.H 𝓜 𝓡 code.env))

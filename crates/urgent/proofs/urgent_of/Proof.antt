@@ -190,9 +190,9 @@ module _ {M : Type 1} {𝓤 : Ura M} (𝓛 : Logic 𝓤) (mem : Memory → SProp
   urgent-of-meets : Meets 𝓛 whole.signature (WpFn 𝓤 H 𝓣.C 𝓣.Λ code.function) (whole.spec 𝓛 mem run)
   urgent-of-meets = walk_Meets 𝓛 whole.ended stayed (Goes-none 𝓛 0 (λ _. All) yes (λ κs x f. refl), tt) (whole.clauses 𝓛 mem run) (WpFn 𝓤 H 𝓣.C 𝓣.Λ code.function) (WpFn-mono 𝓤 H 𝓛.laws 𝓣 code.function) urgent-of-walks
 
-pub urgent-of-spec : {M : Type 1} → stated.statement M
+pub urgent_of_spec : {M : Type 1} → stated.statement M
 unfolding code.routine tables_of
-urgent-of-spec 𝓤 𝓛 𝓜 𝓡 =
+urgent_of_spec 𝓤 𝓛 𝓜 𝓡 =
     entered 𝓤 𝓛.H (triple_of 𝓛 whole.signature (whole.spec 𝓛 𝓜.mem 𝓡.run))
     (tables 𝓤 𝓛.H 𝓜 𝓡 code.env).C (tables 𝓤 𝓛.H 𝓜 𝓡 code.env).Λ #urgent·urgent-of code.function (code.unfolded 𝓤 𝓛.H 𝓜 𝓡)
     (urgent-of-meets 𝓛 𝓜.mem 𝓡.run (tables_of 𝓤 𝓛.H 𝓜 (tables 𝓤 𝓛.H 𝓜 𝓡 code.env))

@@ -8,8 +8,8 @@ invariant-loop size left₀ turns₀ left turns = Unit {0}
 abbrev decreases-loop : tie.decreases-loop
 decreases-loop size left₀ turns₀ left turns = turns
 
-pub drop-bytes-spec : {M : Type 1} → statement M
-drop-bytes-spec =
+pub drop_bytes_spec : {M : Type 1} → statement M
+drop_bytes_spec =
     tie.close
     (tie.spec
     invariant-loop

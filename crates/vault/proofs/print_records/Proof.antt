@@ -9,8 +9,8 @@ invariant-loop trace records lines i₀ t5 t6 t7 t8 t9 t10 i = i ≤ lines
 abbrev decreases-loop : tie.decreases-loop
 decreases-loop trace records lines i₀ t5 t6 t7 t8 t9 t10 i = lines - i
 
-pub print-records-spec : {M : Type 1} → statement M
-print-records-spec =
+pub print_records_spec : {M : Type 1} → statement M
+print_records_spec =
     tie.close
     (tie.spec
     invariant-loop

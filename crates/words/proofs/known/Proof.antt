@@ -8,5 +8,5 @@ use Rattle.words.proofs.known.Tie as tie
 returns : tie.Need-returns
 returns c = c.four.ensures ∙ sym (word-is _ _ (omega arith))
 
-pub known-spec : {M : Type 1} → statement M
-known-spec = tie.close (tie.spec (λ c. search rules) (λ c κs. search rules) returns)
+pub known_spec : {M : Type 1} → statement M
+known_spec = tie.close (tie.spec (λ c. search rules) (λ c κs. search rules) returns)

@@ -12,8 +12,8 @@ returns c =
     let size : (c.before.before.smaller.result + c.before.smaller2.result) * 4 - c.before.before.smaller.result * 4 ≡ c.before.smaller2.result * 4 = omega arith in
     rw (size, c.before.smaller2.ensures, c.before.before.smaller.ensures)
 
-pub part-spec : {M : Type 1} → statement M
-part-spec =
+pub part_spec : {M : Type 1} → statement M
+part_spec =
     tie.close
     (tie.spec
     (λ c κs. search rules)

@@ -10,5 +10,5 @@ returns c = c.four.ensures ∙ sym (word-is _ _ c.before.if1.true)
 returns-2 : tie.Need-returns-2
 returns-2 c = sym (word_out _ _ c.if1.false)
 
-pub word-spec : {M : Type 1} → statement M
-word-spec = tie.close (tie.spec (λ c. search rules) (λ c κs. search rules) returns returns-2)
+pub word_spec : {M : Type 1} → statement M
+word_spec = tie.close (tie.spec (λ c. search rules) (λ c κs. search rules) returns returns-2)

@@ -54,10 +54,10 @@ loop-again c =
       traced = rw (s.traced, entries_more _ _ _ _ _ c.before.before.before.before.before.before.before.before.before.before.loop-test.true, ← c.before.before.before.before.before.before.before.before.before.before.before.before.before.row_field.ensures, ← c.before.before.before.before.before.before.before.before.before.get.ensures, ← c.before.before.before.before.before.before.before.before.get2.ensures, c.before.before.put2.ensures);
     }
 
-same_length : tie.Need-same-length invariant-loop decreases-loop
+same_length : tie.Need-same_length invariant-loop decreases-loop
 same_length c = c.before.loop.invariant.long
 
-same-length-2 : tie.Need-same-length-2 invariant-loop decreases-loop
+same-length-2 : tie.Need-same_length-2 invariant-loop decreases-loop
 same-length-2 c = c.before.loop.invariant.kept
 
 returns : tie.Need-returns invariant-loop decreases-loop
@@ -66,7 +66,7 @@ returns c =
     let s = c.before.loop.invariant in
     let e = s.place in
     let m = s.most in (
-      rw (← c.before.before.row-field2.ensures)
+      rw (← c.before.before.row_field2.ensures)
           (record {
             signals = rw (s.writes, write_done _ _ _ _ c.loop-test.false);
             trace = rw (s.traced, entries_done _ _ _ _ _ c.loop-test.false);
@@ -75,8 +75,8 @@ returns c =
       omega arith,
     )
 
-pub write-row-spec : {M : Type 1} → statement M
-write-row-spec =
+pub write_row_spec : {M : Type 1} → statement M
+write_row_spec =
     tie.close
     (tie.spec
     invariant-loop
