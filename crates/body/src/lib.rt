@@ -22,7 +22,7 @@ pub struct Result {
 // The one with the smaller order; at equal orders the earlier.
 fn sooner_of(part: &[u8], at: usize, best: usize) -> usize
     requires { (0 < at) × (at * 4 + 16 ≤ length part.now) × (best * 4 + 16 ≤ length part.now) }
-    ensures result_value { in_hand (words_of part.now) result ≡ sooner (transition_at (words_of part.now) at) (in_hand (words_of part.now) best) }
+    ensures taken { in_hand (words_of part.now) result ≡ sooner (transition_at (words_of part.now) at) (in_hand (words_of part.now) best) }
     ensures inside { result * 4 + 16 ≤ length part.now }
 {
     if best == 0 {
@@ -38,7 +38,7 @@ fn sooner_of(part: &[u8], at: usize, best: usize) -> usize
 // One more transition: read no further than its 'from' where that is another state.
 fn look_at(part: &[u8], at: usize, latched: &[u32], machine: u32, best: usize) -> usize
     requires { (0 < at) × (at * 4 + 16 ≤ length part.now) × (best * 4 + 16 ≤ length part.now) }
-    ensures result_value { in_hand (words_of part.now) result ≡ look latched.now machine (transition_at (words_of part.now) at) (in_hand (words_of part.now) best) }
+    ensures taken { in_hand (words_of part.now) result ≡ look latched.now machine (transition_at (words_of part.now) at) (in_hand (words_of part.now) best) }
     ensures inside { result * 4 + 16 ≤ length part.now }
 {
     if words::known(part, at) != machine {
@@ -53,7 +53,7 @@ fn look_at(part: &[u8], at: usize, latched: &[u32], machine: u32, best: usize) -
 // The transition that is taken from a machine state.
 fn choose(part: &[u8], latched: &[u32], machine: u32) -> usize
     requires { Whole part.now }
-    ensures result_value { in_hand (words_of part.now) result ≡ fires latched.now machine (task_of (words_of part.now)).transitions }
+    ensures taken { in_hand (words_of part.now) result ≡ fires latched.now machine (task_of (words_of part.now)).transitions }
     ensures inside { result * 4 + 16 ≤ length part.now }
 {
     let first = plan::transitions_at(part);

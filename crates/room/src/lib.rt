@@ -211,7 +211,7 @@ fn active_row(rows: &[u32], count: u32, tasks: &[u32]) -> u32
 
 // Step 3: how many records it has. A task that ends in this tick and has no deadline writes its outputs.
 fn count_writes(rows: &[u32], count: u32, tasks: &[u32]) -> usize
-    ensures by_index { (t : ℕ) (words : List ℕ) (a : Arrays) → a.tasks ≡ tasks.now → result ≡ length (runs_flat t words rows.now count a).entries }
+    ensures counts { (t : ℕ) (words : List ℕ) (a : Arrays) → a.tasks ≡ tasks.now → result ≡ length (runs_flat t words rows.now count a).entries }
     ensures small { result ≤ 2 ^ 32 }
 {
     let row = active_row(rows, count, tasks);
@@ -236,7 +236,7 @@ fn records_end(
     tasks: &[u32],
 ) -> usize
     requires ready { Ready count (event_count events.now) clock }
-    requires last_value { last ≡ end_from (words_of events.now) clock.tick (event_count events.now - clock.place) clock.place }
+    requires last_is { last ≡ end_from (words_of events.now) clock.tick (event_count events.now - clock.place) clock.place }
     requires tasks_len { length tasks.now ≡ max_tasks * 4 }
     ensures { (plan : List ℕ) (a : Arrays) → a.tasks ≡ tasks.now
         → result ≡ clock.at + 5 * length (step_flat (given plan rows.now count events.now) clock.tick clock.place a).entries }
@@ -266,9 +266,9 @@ pub fn tick_fits(
     words: usize,
 ) -> bool
     requires ready { Ready count (event_count events.now) clock }
-    requires last_value { last ≡ end_from (words_of events.now) clock.tick (event_count events.now - clock.place) clock.place }
+    requires last_is { last ≡ end_from (words_of events.now) clock.tick (event_count events.now - clock.place) clock.place }
     requires tasks_len { length tasks.now ≡ max_tasks * 4 }
-    requires most_value { (most ≡ 2 * rows_most rows.now count 0) × (most ≤ 2 ^ 38) }
+    requires most_is { (most ≡ 2 * rows_most rows.now count 0) × (most ≤ 2 ^ 38) }
     ensures { (plan : List ℕ) (a : Arrays) → a.tasks ≡ tasks.now
         → result ≡ leb (clock.at + 5 * length (step_flat (given plan rows.now count events.now) clock.tick clock.place a).entries) words }
 {

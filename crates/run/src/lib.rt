@@ -43,13 +43,13 @@ fn tick_once(
 ) -> Ran
     requires ready { Ready count (event_count events.now) clock }
     requires sized { Sized (record { signals = signals.now; tasks = tasks.old; latched = latched.old; held = held.old }) }
-    requires most_value { (most ≡ 2 * rows_most rows.now count 0) × (most ≤ 2 ^ 38) }
-    requires at_in_bounds { clock.at ≤ length trace.old }
-    requires watched_2 { Watched rows.now count tasks.old clock.tick wakes.old }
+    requires most_is { (most ≡ 2 * rows_most rows.now count 0) × (most ≤ 2 ^ 38) }
+    requires at_inside { clock.at ≤ length trace.old }
+    requires watched { Watched rows.now count tasks.old clock.tick wakes.old }
     requires whole_bodies { WholeBodies plan.now rows.now count }
-    requires last_value { last ≡ end_from (words_of events.now) clock.tick (event_count events.now - clock.place) clock.place }
+    requires last_is { last ≡ end_from (words_of events.now) clock.tick (event_count events.now - clock.place) clock.place }
     requires others_later { OthersLater calls rows.now count (between (words_of events.now) clock.place last) clock.tick wakes.old }
-    ensures by_index { (left : ℕ) → Turned (given plan.now rows.now count events.now) (suc left) clock
+    ensures turned { (left : ℕ) → Turned (given plan.now rows.now count events.now) (suc left) clock
         (record { signals = signals.entry.now; tasks = tasks.old; latched = latched.old; held = held.old }) trace.old result
         (record { signals = signals.exit.now; tasks = tasks.new; latched = latched.new; held = held.new }) trace.new }
     ensures moves { result.ticks ≡ cond result.full 0 1 }
@@ -87,8 +87,8 @@ fn rest(
     wakes: &[u32; TASKS],
     tasks: &mut [u32],
 ) -> Ran
-    requires count_le_max_tasks { (count ≤ max_tasks) × (clock.place ≤ event_count events.now) × (clock.tick + left < 2 ^ 31) }
-    requires wakes_2 { Wakes rows.now tasks.old count clock.tick wakes.now }
+    requires bounds { (count ≤ max_tasks) × (clock.place ≤ event_count events.now) × (clock.tick + left < 2 ^ 31) }
+    requires wakes_known { Wakes rows.now tasks.old count clock.tick wakes.now }
     ensures turned { (plan signals latched held trace : List ℕ) → clock.at ≤ length trace → Turned (given plan rows.now count events.now) left clock
         (record { signals = signals; tasks = tasks.old; latched = latched; held = held }) trace result
         (record { signals = signals; tasks = tasks.new; latched = latched; held = held }) trace }
@@ -142,9 +142,9 @@ fn turn(
 ) -> Ran
     requires ready { Ready count (event_count events.now) clock }
     requires sized { Sized (record { signals = signals.now; tasks = tasks.old; latched = latched.old; held = held.old }) }
-    requires most_value { (most ≡ 2 * rows_most rows.now count 0) × (most ≤ 2 ^ 38) }
-    requires at_in_bounds { (clock.at ≤ length trace.old) × (0 < left) × (clock.tick + left < 2 ^ 31) }
-    requires watched_2 { Watched rows.now count tasks.old clock.tick wakes.old }
+    requires most_is { (most ≡ 2 * rows_most rows.now count 0) × (most ≤ 2 ^ 38) }
+    requires at_inside { (clock.at ≤ length trace.old) × (0 < left) × (clock.tick + left < 2 ^ 31) }
+    requires watched { Watched rows.now count tasks.old clock.tick wakes.old }
     requires whole_bodies { WholeBodies plan.now rows.now count }
     ensures turned { Turned (given plan.now rows.now count events.now) left clock
         (record { signals = signals.entry.now; tasks = tasks.old; latched = latched.old; held = held.old }) trace.old result

@@ -33,8 +33,8 @@ pub fn step(
     trace: &mut [u32],
 ) -> Clock
     requires ready { Ready count (event_count events.now) clock }
-    requires last_value { last ≡ place_after (given plan.now rows.now count events.now) clock.tick clock.place }
-    requires held_value { step_called calls (given plan.now rows.now count events.now) clock.tick clock.place (record { signals = signals.now; tasks = tasks.old; latched = latched.old; held = held.old })
+    requires last_is { last ≡ place_after (given plan.now rows.now count events.now) clock.tick clock.place }
+    requires called_only { step_called calls (given plan.now rows.now count events.now) clock.tick clock.place (record { signals = signals.now; tasks = tasks.old; latched = latched.old; held = held.old })
         ≡ step_flat (given plan.now rows.now count events.now) clock.tick clock.place (record { signals = signals.now; tasks = tasks.old; latched = latched.old; held = held.old }) }
     requires whole_bodies { WholeBodies plan.now rows.now count }
     ensures stepped { Stepped clock result (record { signals = signals.exit.now; tasks = tasks.new; latched = latched.new; held = held.new }) trace.old trace.new

@@ -152,7 +152,7 @@ fn release_row(
     from: usize,
 ) -> usize
     requires { (0 < asked) × (from < 2 ^ 62 + 2 ^ 43) }
-    ensures by_index { (held : List ℕ) → Does (record { signals = signals.entry.now; tasks = tasks.new; latched = latched.new; held = held }) trace.old trace.new from result
+    ensures does { (held : List ℕ) → Does (record { signals = signals.entry.now; tasks = tasks.new; latched = latched.new; held = held }) trace.old trace.new from result
         (answer_row t rows.now row (record { signals = signals.entry.now; tasks = tasks.old; latched = latched.old; held = held }) (released (asked - 1))) }
     ensures near { result ≤ from + 2 ^ 35 }
 {
@@ -192,7 +192,7 @@ fn grant_row(
     from: usize,
 ) -> usize
     requires { from < 2 ^ 62 + 2 ^ 43 }
-    ensures by_index { (held : List ℕ) → Does (record { signals = signals.entry.now; tasks = tasks.new; latched = latched.new; held = held }) trace.old trace.new from result
+    ensures does { (held : List ℕ) → Does (record { signals = signals.entry.now; tasks = tasks.new; latched = latched.new; held = held }) trace.old trace.new from result
         (grant moment.t rows.now (between (words_of events.now) moment.first moment.last) row (record { signals = signals.entry.now; tasks = tasks.old; latched = latched.old; held = held })) }
     ensures near { result ≤ from + 2 ^ 35 }
 {
@@ -243,7 +243,7 @@ pub fn releases(
     from: usize,
 ) -> usize
     requires { (count ≤ max_tasks) × (from < 2 ^ 62 + 2 ^ 42) }
-    ensures by_index { (held : List ℕ) → Does (record { signals = signals.entry.now; tasks = tasks.new; latched = latched.new; held = held }) trace.old trace.new from result
+    ensures does { (held : List ℕ) → Does (record { signals = signals.entry.now; tasks = tasks.new; latched = latched.new; held = held }) trace.old trace.new from result
         (each_row (called calls (grant moment.t rows.now (between (words_of events.now) moment.first moment.last))) count 0 (record { signals = signals.entry.now; tasks = tasks.old; latched = latched.old; held = held })) }
     ensures near { result ≤ from + 2 ^ 39 }
 {

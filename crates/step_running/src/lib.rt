@@ -102,7 +102,7 @@ pub fn run_urgent(
     trace: &mut [u32],
     from: usize,
 ) -> usize
-    requires count_le_max_tasks { (count ≤ max_tasks) × (from < 2 ^ 62 + 2 ^ 42) }
+    requires bounds { (count ≤ max_tasks) × (from < 2 ^ 62 + 2 ^ 42) }
     requires whole_bodies { WholeBodies plan.now rows.now count }
     ensures does { Does (record { signals = signals.exit.now; tasks = tasks.new; latched = latched.now; held = held.new }) trace.old trace.new from result
         (runs_flat t (words_of plan.now) rows.now count (record { signals = signals.entry.now; tasks = tasks.old; latched = latched.now; held = held.old })) }

@@ -1,0 +1,5 @@
+use borrow.Author.Rules.{rules}
+use Rattle.answers.proofs.accepted.Goals as goal
+
+pub returns : goal.returns
+returns c = rw c.number.ensures

@@ -1,0 +1,19 @@
+use borrow.Author.Rules.{rules}
+use Rattle.whole.specs.Whole.{number_of}
+use Rattle.apart.proofs.number_of.Goals as goal
+
+pub returns-in-READY : goal.returns-in-READY
+unfolding number_of
+returns-in-READY c = rw c.enum_told-1.is
+
+pub returns-in-ACTIVE : goal.returns-in-ACTIVE
+unfolding number_of
+returns-in-ACTIVE c = rw c.enum_told-in-ACTIVE-1.is
+
+pub returns-in-FINISHED : goal.returns-in-FINISHED
+unfolding number_of
+returns-in-FINISHED c = rw c.enum_told-in-FINISHED-1.is
+
+pub returns-in-ERROR : goal.returns-in-ERROR
+unfolding number_of
+returns-in-ERROR c = rw c.enum_told-in-ERROR-1.is

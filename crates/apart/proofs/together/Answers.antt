@@ -1,0 +1,17 @@
+use Prim.Native.Nat.{◌≤◌, ◌-◌}
+use mathlib.Core.List.{[]}
+use Rattle.limits.specs.Limits.{max_tasks}
+use Rattle.state.specs.State.{nowhere}
+use Rattle.state.proofs.Laws.{Filled, fill_none, fill_more, fill_done}
+use Rattle.whole.specs.Whole.{task_in}
+use borrow.Author.Rules.{rules}
+use Rattle.apart.proofs.together.Goals as goal
+
+pub loop-i-init : goal.loop-i-init
+loop-i-init c = (search rules, fill_none _ _ _ _)
+
+pub loop-i-preserved : goal.loop-i-preserved
+loop-i-preserved c = (search rules, rw c.task_in-x.ensures (fill_more _ _ _ _ _ c.loop-i-test.true c.loop-i.invariant.1))
+
+pub returns : goal.returns
+returns c = rw (fill_done _ _ _ _ _ c.loop-i-test.false c.loop-i.invariant.1)

@@ -1,0 +1,14 @@
+use Prim.Native.Nat.{◌≤◌, ◌-◌}
+use mathlib.Core.List.{[]}
+use Rattle.limits.specs.Limits.{max_tasks}
+use Rattle.state.specs.State.{nowhere}
+use Rattle.state.proofs.Laws.{Filled, fill_none, fill_more, fill_done}
+use Rattle.whole.specs.Whole.{task_in}
+use borrow.Author.Rules.{rules}
+use Rattle.apart.proofs.together.Given as goal
+
+abbrev pub invariant-loop-i : goal.invariant-loop-i
+invariant-loop-i l = (l.i ≤ max_tasks) × Filled (task_in (record { l.signals = []; l.tasks = l.tasks; l.latched = l.latched; l.held = l.held })) nowhere max_tasks l.i l.states
+
+abbrev pub decreases-loop-i : goal.decreases-loop-i
+decreases-loop-i l = max_tasks - l.i

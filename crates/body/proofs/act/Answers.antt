@@ -1,0 +1,52 @@
+use Rattle.std.proofs.Common.{rules, ne_eqb}
+use Rattle.body.specs.Body.{do_action}
+use Rattle.body.proofs.act.Goals as goal
+
+pub returns-in-1 : goal.returns-in-1
+unfolding do_action
+returns-in-1 c = rw (
+      ← c.known-kind.ensures,
+      c.in-1.keys1,
+      ← c.known-a.ensures,
+      ← c.known-c.ensures,
+    )
+    c.put.ensures
+
+pub returns-in-2 : goal.returns-in-2
+unfolding do_action
+returns-in-2 c = rw (
+      ← c.known-kind.ensures,
+      c.in-1.keys2,
+      ← c.known-a.ensures,
+      ← c.known-c.ensures,
+      ← c.get-m.ensures,
+    )
+    c.put-in-2.ensures
+
+pub returns-in-3 : goal.returns-in-3
+unfolding do_action
+returns-in-3 c = rw (
+      ← c.known-kind.ensures,
+      c.in-1.keys3,
+      ← c.known-a.ensures,
+      ← c.known-c.ensures,
+      ← c.get-m.ensures,
+      ← c.get.ensures,
+      ← c.wrapping_add_u32-sum.ensures,
+    )
+    c.put-in-3.ensures
+
+pub returns-in_default : goal.returns-in_default
+unfolding do_action
+returns-in_default c = let other = c.in-1.rest in
+    rw (
+      ← c.known-kind.ensures,
+      ne_eqb _ _ other.0.0.1,
+      ne_eqb _ _ other.0.1,
+      ne_eqb _ _ other.1,
+      ← c.known-a.ensures,
+      ← c.known-c.ensures,
+      ← c.get-m.ensures,
+      ← c.known.ensures,
+    )
+    c.transfer.ensures

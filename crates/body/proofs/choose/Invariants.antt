@@ -1,0 +1,17 @@
+use Rattle.std.proofs.Common.{◌≡◌, ◌+◌, ◌-◌, ◌*◌, ◌≤◌, length, rules}
+use native.Mathlib.Nat.{sub-zero}
+use Rattle.words.specs.Words.{words_of}
+use Rattle.lists.specs.Lists.{tab}
+use Rattle.plan.specs.File.{transition_at, transitions_at, task_of}
+use Rattle.body.specs.Body.{in_turn, look, fires}
+use Rattle.body.specs.Steps.{in_hand}
+use Rattle.body.proofs.Laws.{turn_more, turn_done}
+use Rattle.body.proofs.choose.Given as goal
+
+abbrev pub invariant-loop-j : goal.invariant-loop-j
+invariant-loop-j l = (l.j ≤ l.transitions) × (l.best * 4 + 16 ≤ length l.part)
+    × (fires l.latched l.machine (tab (λ i. transition_at (words_of l.part) (transitions_at (words_of l.part) + i * 4)) 0 l.transitions)
+    ≡ in_turn (look l.latched l.machine) (tab (λ i. transition_at (words_of l.part) (transitions_at (words_of l.part) + i * 4)) l.j (l.transitions - l.j)) (in_hand (words_of l.part) l.best))
+
+abbrev pub decreases-loop-j : goal.decreases-loop-j
+decreases-loop-j l = l.transitions - l.j

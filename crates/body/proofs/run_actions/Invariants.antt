@@ -1,0 +1,16 @@
+use Rattle.std.proofs.Common.{◌≡◌, ◌+◌, ◌-◌, ◌*◌, ◌≤◌, length, ◌∙◌, rules}
+use native.Mathlib.Nat.{sub-zero}
+use Rattle.words.specs.Words.{words_of}
+use Rattle.lists.specs.Lists.{tab}
+use Rattle.plan.specs.File.{action_at, actions_at, task_of}
+use Rattle.body.specs.Body.{run_actions}
+use Rattle.body.proofs.Laws.{turn_more, turn_done}
+use Rattle.body.proofs.run_actions.Given as goal
+
+abbrev pub invariant-loop-j : goal.invariant-loop-j
+invariant-loop-j l = (l.j ≤ l.actions) × (length l.held ≡ length l.initial.held)
+    × (run_actions l.latched l.state (tab (λ i. action_at (words_of l.part) (actions_at (words_of l.part) + i * 5)) 0 l.actions) l.initial.held
+    ≡ run_actions l.latched l.state (tab (λ i. action_at (words_of l.part) (actions_at (words_of l.part) + i * 5)) l.j (l.actions - l.j)) l.held)
+
+abbrev pub decreases-loop-j : goal.decreases-loop-j
+decreases-loop-j l = l.actions - l.j

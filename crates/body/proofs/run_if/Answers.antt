@@ -1,0 +1,5 @@
+use Rattle.std.proofs.Common.{rules}
+use Rattle.body.proofs.run_if.Goals as goal
+
+pub returns-then-updated : goal.returns-then-updated
+returns-then-updated c = rw c.if-updated.true c.run_actions.ensures

@@ -1,0 +1,10 @@
+use Prim.Native.Nat.{◌-◌, ◌≤◌}
+use Rattle.limits.specs.Limits.{max_ports}
+use borrow.Author.Rules.{rules}
+use Rattle.cases.proofs.eight_words.Given as goal
+
+abbrev pub invariant-loop-i : goal.invariant-loop-i
+invariant-loop-i l = l.i ≤ max_ports
+
+abbrev pub decreases-loop-i : goal.decreases-loop-i
+decreases-loop-i l = max_ports - l.i

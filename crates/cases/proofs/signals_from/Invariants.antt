@@ -1,0 +1,10 @@
+use Prim.Native.Nat.{◌-◌, ◌≤◌}
+use Rattle.limits.specs.Limits.{max_signals}
+use borrow.Author.Rules.{rules}
+use Rattle.cases.proofs.signals_from.Given as goal
+
+abbrev pub invariant-loop-i : goal.invariant-loop-i
+invariant-loop-i l = l.i ≤ max_signals
+
+abbrev pub decreases-loop-i : goal.decreases-loop-i
+decreases-loop-i l = max_signals - l.i

@@ -1,0 +1,13 @@
+use Prim.Native.Nat.{◌-◌, min}
+use mathlib.Core.Path.{◌≡◌, refl, sym, ◌∙◌}
+use native.Mathlib.Omega.{arith}
+use borrow.Author.Rules.{rules}
+use Rattle.steps.specs.Flat.{first_active}
+use Rattle.choice.proofs.Choice.{taken, passed, done}
+use Rattle.choice.proofs.running_row.Given as goal
+
+abbrev pub invariant-loop-j : goal.invariant-loop-j
+invariant-loop-j l = first_active l.rows l.tasks l.count 0 ≡ first_active l.rows l.tasks (l.count - l.j) (min l.j l.count)
+
+abbrev pub decreases-loop-j : goal.decreases-loop-j
+decreases-loop-j l = l.count - l.j

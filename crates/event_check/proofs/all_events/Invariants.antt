@@ -1,0 +1,20 @@
+use Prim.Native.Nat.{◌≤◌, ◌-◌}
+use native.Mathlib.Nat.{sub-zero}
+use mathlib.Core.Path.{◌≡◌}
+use borrow.Author.Rules.{rules}
+use borrow.Author.Tests.{not-true, not-false}
+use Rattle.words.specs.Words.{words_of}
+use Rattle.lists.specs.Lists.{tab}
+use Rattle.answers.specs.Answers.{first_broken}
+use Rattle.events.specs.Events.{event_of, event_rules}
+use Rattle.events.proofs.Laws.{verdict-more, verdict-done}
+use Rattle.event_check.specs.Targets.{content_by}
+use Rattle.event_check.proofs.all_events.Given as goal
+
+abbrev pub invariant-loop-i : goal.invariant-loop-i
+invariant-loop-i l = (l.i ≤ l.count)
+    × (first_broken (event_rules (content_by l.targets) 0 0 (tab (event_of (words_of l.events)) 0 l.count))
+    ≡ first_broken (event_rules (content_by l.targets) l.i l.last (tab (event_of (words_of l.events)) l.i (l.count - l.i))))
+
+abbrev pub decreases-loop-i : goal.decreases-loop-i
+decreases-loop-i l = l.count - l.i

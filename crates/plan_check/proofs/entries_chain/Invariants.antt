@@ -1,0 +1,17 @@
+use Prim.Native.Nat.{◌≤◌, ◌<◌, ◌+◌, ◌*◌, ◌-◌}
+use native.Mathlib.Nat.{sub-zero}
+use mathlib.Core.Path.{◌≡◌}
+use mathlib.Core.Bool.{◌&&◌}
+use borrow.Author.Rules.{rules}
+use Rattle.words.specs.Words.{words_of}
+use Rattle.words.proofs.Laws.{words_length}
+use Rattle.plan.specs.Rules.{chained}
+use Rattle.plan_check.proofs.Laws.{chained_more, chained-done}
+use Rattle.plan_check.proofs.entries_chain.Given as goal
+
+abbrev pub invariant-loop-k : goal.invariant-loop-k
+invariant-loop-k l = (l.k ≤ l.entries) × (l.at < (l.k + 1) * 4294967296)
+    × (chained (words_of l.bytes) l.entries 0 (3 + l.entries * 2) ≡ (l.good && chained (words_of l.bytes) (l.entries - l.k) l.k l.at))
+
+abbrev pub decreases-loop-k : goal.decreases-loop-k
+decreases-loop-k l = l.entries - l.k

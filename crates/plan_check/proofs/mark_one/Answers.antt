@@ -1,0 +1,7 @@
+use borrow.Author.Rules.{rules}
+use mathlib.Core.Path.{◌∙◌}
+use Rattle.words.proofs.Laws.{part-words}
+use Rattle.plan_check.proofs.mark_one.Goals as goal
+
+pub returns : goal.returns
+returns c = c.mark_task.ensures ∙ rw (c.task_part.ensures, part-words)

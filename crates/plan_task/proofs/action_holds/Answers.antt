@@ -1,0 +1,5 @@
+use borrow.Author.Rules.{rules}
+use Rattle.plan_task.proofs.action_holds.Goals as goal
+
+pub returns : goal.returns
+returns c = cc

@@ -1,0 +1,19 @@
+use Prim.Native.Nat.{◌≤◌, ◌+◌, ◌*◌, ◌-◌}
+use native.Mathlib.Nat.{sub-zero}
+use mathlib.Core.Path.{◌≡◌}
+use mathlib.Core.Bool.{◌&&◌}
+use borrow.Author.Rules.{rules}
+use Rattle.words.specs.Words.{words_of}
+use Rattle.lists.specs.Lists.{tab, all}
+use Rattle.lists.proofs.Laws.{all_more, all_done}
+use Rattle.plan.specs.File.{action_at, actions_from}
+use Rattle.plan.specs.Rules.{action_rule}
+use Rattle.plan_task.proofs.actions_hold.Given as goal
+
+abbrev pub invariant-loop-j : goal.invariant-loop-j
+invariant-loop-j l = (l.j ≤ l.count)
+    × (all (action_rule l.ports.inputs l.ports.outputs l.ports.lowest) (actions_from (words_of l.part) l.first l.count)
+    ≡ (l.good && all (action_rule l.ports.inputs l.ports.outputs l.ports.lowest) (tab (λ i. action_at (words_of l.part) (l.first + i * 5)) l.j (l.count - l.j))))
+
+abbrev pub decreases-loop-j : goal.decreases-loop-j
+decreases-loop-j l = l.count - l.j

@@ -1,0 +1,6 @@
+use borrow.Author.Rules.{rules}
+use Rattle.words.proofs.Laws.{words_length}
+use Rattle.plan_task.proofs.shape_holds.Goals as goal
+
+pub returns : goal.returns
+returns c = simp words_length (cc)

@@ -1,0 +1,20 @@
+use Prim.Native.Nat.{ℕ, ◌≤◌, ◌<◌, ◌+◌, ◌-◌}
+use native.Mathlib.Nat.{sub-zero}
+use mathlib.Core.Path.{◌≡◌, sym, ◌∙◌}
+use mathlib.Core.Bool.{◌&&◌}
+use lib.Dec.{ltb}
+use borrow.Author.Rules.{rules}
+use Rattle.words.specs.Words.{words_of}
+use Rattle.lists.specs.Lists.{tab, all}
+use Rattle.lists.proofs.Laws.{all_more, all_done}
+use Rattle.plan.specs.File.{word, values}
+use Rattle.plan_task.proofs.signals_hold.Goals as goal
+
+pub loop-j-init : goal.loop-j-init
+loop-j-init c = (search rules, rw sub-zero)
+
+pub loop-j-preserved : goal.loop-j-preserved
+loop-j-preserved c = (search rules, rw (c.loop-j.invariant.1, all_more _ _ _ _ _ c.loop-j-test.true, c.word-x.ensures))
+
+pub returns : goal.returns
+returns c = rw (c.loop-j.invariant.1, all_done _ _ _ _ _ c.loop-j-test.false)

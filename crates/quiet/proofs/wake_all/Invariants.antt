@@ -1,0 +1,12 @@
+use Prim.Native.Nat.{◌-◌, ◌<◌, ◌≤◌}
+use native.Mathlib.Omega.{arith}
+use Rattle.limits.specs.Limits.{max_tasks}
+use Rattle.quiet.proofs.Wakes.{Below, below_more}
+use borrow.Author.Rules.{rules}
+use Rattle.quiet.proofs.wake_all.Given as goal
+
+abbrev pub invariant-loop-j : goal.invariant-loop-j
+invariant-loop-j l = (l.j ≤ max_tasks) × Below l.j l.wake l.wakes
+
+abbrev pub decreases-loop-j : goal.decreases-loop-j
+decreases-loop-j l = max_tasks - l.j

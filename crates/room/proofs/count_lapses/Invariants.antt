@@ -1,0 +1,15 @@
+use Prim.Native.Nat.{◌+◌, ◌*◌, ◌-◌, ◌≤◌, ◌^◌}
+use mathlib.Core.Path.{◌≡◌, refl}
+use native.Mathlib.Omega.{arith}
+use lib.ListN.{length}
+use borrow.Author.Rules.{rules}
+use Rattle.arrays.specs.Arrays.{Arrays}
+use Rattle.steps.specs.Flat.{lapse}
+use Rattle.room.proofs.Counting.{Sofar, sofar_none, sofar_more, sofar_done}
+use Rattle.room.proofs.count_lapses.Given as goal
+
+abbrev pub invariant-loop-j : goal.invariant-loop-j
+invariant-loop-j l = (length l.tasks ≡ length l.initial.tasks) × (l.j ≤ l.count) × (l.sum ≤ l.j * 2 ^ 32) × ((a : Arrays) → a.tasks ≡ l.initial.tasks → Sofar (lapse l.t l.rows) l.count a l.tasks l.sum l.j)
+
+abbrev pub decreases-loop-j : goal.decreases-loop-j
+decreases-loop-j l = l.count - l.j

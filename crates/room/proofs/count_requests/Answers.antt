@@ -1,0 +1,26 @@
+-- no more are counted than places are passed, so the sum does not wrap
+use Prim.Native.Nat.{◌≤◌, ◌+◌, ◌-◌}
+use mathlib.Core.Path.{◌≡◌}
+use native.Mathlib.Omega.{arith}
+use native.Mathlib.Nat.{zero-add}
+use borrow.Author.Rules.{rules}
+use Rattle.words.specs.Words.{words_of}
+use Rattle.tick.specs.Turns.{requests}
+use Rattle.steps.specs.Flat.{between}
+use Rattle.step_releases.proofs.Laws.{asks_more, asks_done}
+use Rattle.room.proofs.count_requests.Goals as goal
+
+pub loop-p-init : goal.loop-p-init
+loop-p-init c = (search rules, rw zero-add)
+
+pub overflow_add-sum : goal.overflow_add-sum
+overflow_add-sum c = let b = c.loop-p.invariant.0 in let o = c.request-sum.ensures.small in omega arith
+
+pub loop-p-preserved : goal.loop-p-preserved
+loop-p-preserved c = (
+  let b = c.loop-p.invariant.0 in let o = c.request-sum.ensures.small in omega arith,
+  rw (c.loop-p.invariant.1, asks_more _ _ _ _ _ c.loop-p-test.true, c.request-sum.ensures.value),
+)
+
+pub returns : goal.returns
+returns c = rw (c.loop-p.invariant.1, asks_done _ _ _ _ _ c.loop-p-test.false)

@@ -1,0 +1,18 @@
+use Prim.Native.Nat.{ℕ, ◌-◌, ◌<◌}
+use native.Mathlib.Omega.{arith}
+use mathlib.Core.Path.{◌∙◌}
+use mathlib.Core.List.{List}
+use lib.ListN.{length}
+use borrow.Author.Rules.{rules}
+use Rattle.arrays.specs.Arrays.{Arrays}
+use Rattle.step.specs.Step.{given}
+use Rattle.run.specs.Run.{Watched}
+use Rattle.run.proofs.Kept.{Kept, AsLong, kept_none, kept_ready, kept_asks, kept_done, kept_more, kept_full, nearer}
+use Rattle.run.proofs.run_ticks.Given as goal
+
+abbrev pub invariant-loop-done : goal.invariant-loop-done
+invariant-loop-done l = Kept (given l.plan l.rows l.count l.events) l.asked (arrays l.initial.signals l.initial.tasks l.initial.latched l.initial.held) l.initial.trace l.initial.now (arrays l.signals l.tasks l.latched l.held) l.trace l.now l.done
+    × Watched l.rows l.count l.tasks l.now.tick l.wakes
+
+abbrev pub decreases-loop-done : goal.decreases-loop-done
+decreases-loop-done l = l.asked - l.done

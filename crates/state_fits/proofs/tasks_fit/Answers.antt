@@ -1,0 +1,31 @@
+use Prim.Native.Nat.{◌-◌, ◌<◌}
+use mathlib.Core.Path.{◌≡◌, sym}
+use native.Mathlib.Omega.{arith}
+use mathlib.Core.Bool.{◌&&◌}
+use Rattle.limits.specs.Limits.{max_tasks}
+use Rattle.lists.specs.Lists.{tab, all}
+use Rattle.lists.proofs.Laws.{all_more, all_done}
+use Rattle.state.specs.State.{state_at}
+use Rattle.words.specs.Words.{words_of}
+use Rattle.plan.specs.File.{task_count, plan_of}
+use Rattle.state.specs.Fits.{task_rule}
+use Rattle.state_fits.proofs.Tasks.{in_plan}
+use borrow.Author.Rules.{rules}
+use Rattle.state_fits.proofs.tasks_fit.Goals as goal
+
+pub loop-i-init : goal.loop-i-init
+loop-i-init c = let whole : c.args.count - 0 ≡ c.args.count = omega arith in
+    rw whole
+
+pub loop-i-preserved : goal.loop-i-preserved
+loop-i-preserved c = let less : c.loop-i.i < task_count (words_of c.args.plan.now) = omega (arith, c.loop-i-test.true, c.requires.0) in
+    rw (
+      c.loop-i.invariant,
+      all_more _ _ _ _ _ c.loop-i-test.true,
+      in_plan _ c.args.tick _ _ less,
+      c.task_fits-one.ensures,
+      c.task_part.ensures,
+    )
+
+pub returns : goal.returns
+returns c = sym (rw c.loop-i.invariant (all_done _ _ _ _ _ c.loop-i-test.false))

@@ -1,0 +1,16 @@
+use Prim.Native.Nat.{◌≤◌, ◌-◌}
+use Rattle.state.proofs.Laws.{Filled, fill_none, fill_more, fill_done}
+use Rattle.limits.specs.Limits.{max_signals}
+use Rattle.plan.specs.File.{plan_of}
+use Rattle.state.specs.State.{value_at}
+use borrow.Author.Rules.{rules}
+use Rattle.state_fresh.proofs.fresh_signals.Goals as goal
+
+pub loop-i-init : goal.loop-i-init
+loop-i-init c = (search rules, fill_none _ _ _ _)
+
+pub loop-i-preserved : goal.loop-i-preserved
+loop-i-preserved c = (search rules, rw c.initial_value-x.ensures (fill_more _ _ _ _ _ c.loop-i-test.true c.loop-i.invariant.1))
+
+pub returns : goal.returns
+returns c = fill_done _ _ _ _ _ c.loop-i-test.false c.loop-i.invariant.1

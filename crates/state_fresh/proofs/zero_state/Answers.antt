@@ -1,0 +1,7 @@
+use Rattle.state.specs.State.{zero_state}
+use borrow.Author.Rules.{rules}
+use Rattle.state_fresh.proofs.zero_state.Goals as goal
+
+pub returns : goal.returns
+unfolding zero_state
+returns c = rw c.idle_task-task.ensures

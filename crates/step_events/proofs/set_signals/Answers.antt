@@ -1,0 +1,24 @@
+use Prim.Native.Nat.{◌≤◌, ◌-◌}
+use mathlib.Core.Path.{◌≡◌, refl, ◌∙◌}
+use lib.ListN.{length}
+use borrow.Author.Rules.{rules}
+use Rattle.words.specs.Words.{words_of}
+use Rattle.tick.specs.Tick.{set_now}
+use Rattle.steps.specs.Flat.{between}
+use Rattle.step_events.proofs.Laws.{set_more, set_done}
+use Rattle.step_events.proofs.set_signals.Goals as goal
+
+pub loop-p-init : goal.loop-p-init
+loop-p-init c = (refl, refl)
+
+pub loop-p-preserved : goal.loop-p-preserved
+loop-p-preserved c = (
+  c.set_signal.auto.1.1.0 ∙ c.loop-p.invariant.0,
+  rw (c.loop-p.invariant.1, set_more _ _ _ _ c.loop-p-test.true, c.set_signal.ensures),
+)
+
+pub shape_of-signals : goal.shape_of-signals
+shape_of-signals c = c.loop-p.invariant.0
+
+pub returns : goal.returns
+returns c = rw (c.loop-p.invariant.1, set_done _ _ _ _ c.loop-p-test.false)

@@ -1,0 +1,23 @@
+use Prim.Native.Nat.{ℕ, ◌≤◌, ◌<◌, ◌+◌, ◌*◌, ◌-◌, ◌^◌}
+use native.Mathlib.Omega.{arith}
+use mathlib.Core.Path.{◌≡◌, refl}
+use mathlib.Core.Bool.{true}
+use mathlib.Core.List.{List}
+use lib.ListN.{length}
+use borrow.Author.Rules.{rules}
+use Rattle.marks.specs.Marks.{has}
+use Rattle.turns.proofs.Laws.{next_from, next_below, next_at}
+use Rattle.words.specs.Words.{words_of}
+use Rattle.events.specs.Events.{Event}
+use Rattle.trace.specs.Trace.{over}
+use Rattle.arrays.specs.Arrays.{Arrays}
+use Rattle.steps.specs.Flat.{between, grant, called}
+use Rattle.steps.proofs.Laws.{Sofar, sofar_none, rows_done}
+use Rattle.steps.proofs.Called.{sofar_next, sofar_called}
+use Rattle.step_releases.proofs.releases.Given as goal
+
+abbrev pub invariant-loop-j : goal.invariant-loop-j
+invariant-loop-j l = Kept l.rows l.count l.moment.t l.calls (between (words_of l.events) l.moment.first l.moment.last) l.signals l.initial.tasks l.initial.latched l.initial.trace l.from l.tasks l.latched l.trace l.at l.j
+
+abbrev pub decreases-loop-j : goal.decreases-loop-j
+decreases-loop-j l = l.count - l.j

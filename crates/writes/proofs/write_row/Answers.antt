@@ -1,0 +1,62 @@
+-- write p of a row
+-- p of the writes are done, those from p on come to what all come to from the start
+use Prim.Native.Nat.{ℕ, ◌≤◌, ◌<◌, ◌+◌, ◌*◌, ◌-◌}
+use native.Mathlib.Nat.{sub-zero}
+use native.Mathlib.Omega.{arith}
+use mathlib.Core.Path.{◌≡◌, refl, sym, ap, ◌∙◌}
+use mathlib.Core.List.{List}
+use lib.ListN.{length, get_or, length-set}
+use borrow.Author.Rules.{rules}
+use Rattle.lists.specs.Lists.{tab}
+use Rattle.lists.proofs.Laws.{length-tab}
+use Rattle.trace.specs.Trace.{over}
+use Rattle.trace.proofs.Laws.{length-put}
+use Rattle.tick.specs.Turns.{Write}
+use Rattle.tick.specs.Tick.{write_all}
+use Rattle.arrays.specs.Arrays.{row_field}
+use Rattle.steps.specs.Flat.{task_of_row, row_writes, write_entries}
+use Rattle.steps.proofs.Laws.{write_more, write_done, entries_more, entries_done, writes_length}
+use Rattle.writes.proofs.write_row.Goals as goal
+
+abbrev write_at : List ℕ → ℕ → List ℕ → ℕ → Write
+write_at rows row held p = record { signal = row_field rows row (24 + p); value = get_or held (task_of_row rows row * 8 + p) 0 }
+record Sofar (rows : List ℕ) (row t : ℕ) (held signals₀ trace₀ : List ℕ) (from count : ℕ) (signals trace : List ℕ) (at p : ℕ) : Type 0 where
+  most : p ≤ count
+  place : at ≡ from + 5 * p
+  long : length signals ≡ length signals₀
+  kept : length trace ≡ length trace₀
+  writes : write_all (tab (write_at rows row held) 0 count) signals₀ ≡ write_all (tab (write_at rows row held) p (count - p)) signals
+  traced : over trace₀ from (write_entries t (task_of_row rows row) (tab (write_at rows row held) 0 count))
+      ≡ over trace at (write_entries t (task_of_row rows row) (tab (write_at rows row held) p (count - p)))
+
+pub loop-p-init : goal.loop-p-init
+loop-p-init c = record { most = search rules; place = search rules; long = refl; kept = refl; writes = rw sub-zero; traced = rw sub-zero }
+
+pub loop-p-preserved : goal.loop-p-preserved
+unfolding over
+loop-p-preserved c = let s = c.loop-p.invariant in
+    record {
+      most = search rules;
+      place = let e = s.place in omega arith;
+      long = rw c.put.ensures (simp length-set s.long);
+      kept = rw c.put-in-loop-p.ensures (simp length-put s.kept);
+      writes = rw (s.writes, write_more _ _ _ _ c.loop-p-test.true, ← c.row_field-task.ensures, ← c.get-signal.ensures, ← c.get-value.ensures, c.put.ensures);
+      traced = rw (s.traced, entries_more _ _ _ _ _ c.loop-p-test.true, ← c.row_field-task.ensures, ← c.get-signal.ensures, ← c.get-value.ensures, c.put-in-loop-p.ensures);
+    }
+
+pub shape_of-signals : goal.shape_of-signals
+shape_of-signals c = c.loop-p.invariant.long
+
+pub shape_of-trace : goal.shape_of-trace
+shape_of-trace c = c.loop-p.invariant.kept
+
+pub returns : goal.returns
+unfolding over
+returns c = let s = c.loop-p.invariant in
+    let e = s.place in
+    let m = s.most in record { wrote = rw (← c.row_field-count.ensures)
+          (record {
+            signals = rw (s.writes, write_done _ _ _ _ c.loop-p-test.false);
+            trace = rw (s.traced, entries_done _ _ _ _ _ c.loop-p-test.false);
+            ends = rw (writes_length, length-tab) (omega arith);
+          }); near = omega arith }
