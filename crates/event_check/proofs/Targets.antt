@@ -1,7 +1,7 @@
 -- Where the plan is accepted, what the check asks is the papers' rule 11.
 use Prim.Native.Nat.{ℕ, zero, suc, ◌+◌, ◌<◌, ◌≤◌}
 use mathlib.Core.Path.{◌≡◌, refl, sym, ap, ap₂, ◌∙◌}
-use mathlib.Core.Bool.{Bool, true, false, cond, not, ◌&&◌, ◌||◌, or_false, and_comm}
+use mathlib.Core.Bool.{Bool, true, false, cond, not, ◌&&◌, ◌||◌, or-false, and_comm}
 use mathlib.Core.Logic.{◌⊎◌, inl, inr}
 use mathlib.Core.List.{List, [], ◌∷◌}
 use native.Mathlib.Omega.{arith}
@@ -50,7 +50,7 @@ not_not false = refl
 -- one task more, where t says that it is event-driven
 one_more : (t : Bool) (marks i k : ℕ) → i < 64 → k < 64 → seen (cond t (mark marks i) marks) k ≡ (seen marks k || (t && eqb i k))
 one_more true marks i k hi hk = seen-mark marks i k hi hk
-one_more false marks i k hi hk = sym (or_false (seen marks k))
+one_more false marks i k hi hk = sym (or-false (seen marks k))
 
 module _ (ws : List ℕ) where
   abbrev driven : ℕ → Bool
@@ -77,7 +77,7 @@ module _ (ws : List ℕ) where
           rw (not_yet n k (omega (arith, e)) (omega arith), eq-eqb n k (sym e)) (and_true (driven n) ∙ ap driven (sym e))
       go (inr less) earlier =
           rw (earlier less, ne_eqb n k (λ e. omega (arith, e)))
-          (ap (λ (b : Bool). driven k || b) (and_comm (driven n) false) ∙ or_false (driven k))
+          (ap (λ (b : Bool). driven k || b) (and_comm (driven n) false) ∙ or-false (driven k))
 
 module _ (bytes : List ℕ) where
   abbrev ws : List ℕ

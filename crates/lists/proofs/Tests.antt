@@ -82,14 +82,14 @@ by_sameness a b G f g = go (same_or_not a b)
     go (inl e) = rw (eq-eqb a b e) (f e)
     go (inr d) = rw (ne_eqb a b d) (g d)
 
-or_false : (p : Bool) → (p || false) ≡ p
-or_false true = refl
-or_false false = refl
+or-false : (p : Bool) → (p || false) ≡ p
+or-false true = refl
+or-false false = refl
 
 pub choice_iff : (a b : ℕ) (p q : Bool) → (((eqb a b && p) || (not (eqb a b) && q)) ≡ true) ↔ ((a ≡ b → p ≡ true) × (a ≢ b → q ≡ true))
 choice_iff a b p q =
     by_sameness a b (λ t. (((t && p) || (not t && q)) ≡ true) ↔ ((a ≡ b → p ≡ true) × (a ≢ b → q ≡ true)))
-    (λ e. ((λ h. ((λ s. sym (or_false p) ∙ h), (λ d. absurd (d e)))), (λ h. or_false p ∙ h.0 e)))
+    (λ e. ((λ h. ((λ s. sym (or-false p) ∙ h), (λ d. absurd (d e)))), (λ h. or-false p ∙ h.0 e)))
     (λ d. ((λ h. ((λ e. absurd (d e)), (λ s. h))), (λ h. h.1 d)))
 
 pub unless_iff : (a b : ℕ) (p : Bool) → ((eqb a b || p) ≡ true) ↔ (a ≢ b → p ≡ true)

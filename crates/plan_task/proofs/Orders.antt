@@ -1,7 +1,7 @@
 -- One pass over marks finds what the papers' rule finds, which compares each transition with those after it.
 use Prim.Native.Nat.{ℕ, ◌+◌, ◌-◌, ◌<◌, ◌≤◌}
 use mathlib.Core.Path.{◌≡◌, refl, sym, ap, ◌∙◌}
-use mathlib.Core.Bool.{Bool, true, false, cond, not, ◌&&◌, ◌||◌, or_false, and_comm}
+use mathlib.Core.Bool.{Bool, true, false, cond, not, ◌&&◌, ◌||◌, or-false, and_comm}
 use mathlib.Core.List.{List, [], ◌∷◌}
 use native.Mathlib.Omega.{arith}
 use lib.ListN.{length, get_or, set, length-set, get_or-replicate}
@@ -40,7 +40,7 @@ seen-after marks x z l hx hz = rw (le-leb x.from max_state hx.0, le-leb z.from m
         (seen-mark (get_or marks x.from 0) x.order z.order (omega (arith, hx.1)) (omega (arith, hz.1)))
     go false e =
         rw (get_or-set_other marks x.from z.from (mark (get_or marks x.from 0) x.order) 0 (λ same. eqb-false x.from z.from e (sym same)))
-        (sym (or_false (seen (get_or marks z.from 0) z.order)))
+        (sym (or-false (seen (get_or marks z.from 0) z.order)))
 
 -- ---- a test that is two tests of each transition in range
 -- neither of two, the second one first
