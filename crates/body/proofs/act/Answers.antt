@@ -1,4 +1,4 @@
-use Rattle.std.proofs.Common.{rules, ne_eqb}
+use Rattle.std.proofs.Common.{rules, arith, ne_eqb}
 use Rattle.body.specs.Body.{do_action}
 use Rattle.body.proofs.act.Goals as goal
 
@@ -32,18 +32,18 @@ returns-in-3 c = rw (
       ← c.known-c.ensures,
       ← c.get-m.ensures,
       ← c.get.ensures,
-      ← c.wrapping_add_u32-sum.ensures,
+      ← c.wrapping_add_u32-sum.ensures.value,
     )
     c.put-in-3.ensures
 
 pub returns-in_default : goal.returns-in_default
 unfolding do_action
-returns-in_default c = let other = c.in_default.is in
+returns-in_default c =
     rw (
       ← c.known-kind.ensures,
-      ne_eqb _ _ other.0.0.1,
-      ne_eqb _ _ other.0.1,
-      ne_eqb _ _ other.1,
+      ne_eqb c.known-kind.result 1 (λ e. omega arith),
+      ne_eqb c.known-kind.result 2 (λ e. omega arith),
+      ne_eqb c.known-kind.result 3 (λ e. omega arith),
       ← c.known-a.ensures,
       ← c.known-c.ensures,
       ← c.get-m.ensures,

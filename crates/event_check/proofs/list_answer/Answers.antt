@@ -21,5 +21,5 @@ returns-then-count-eq0 c = rw (← c.size_holds.ensures, c.if-not-size_holds.fal
 
 pub returns : goal.returns
 unfolding first_broken
-returns c = rw (← c.size_holds.ensures, c.if-not-size_holds.false, ← c.Targets-of.ensures)
+returns c = rw (← c.size_holds.ensures, c.if-not-size_holds.false, ← c.targets_of-targets.ensures)
     c.all_events.ensures
