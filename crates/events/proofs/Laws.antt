@@ -27,7 +27,7 @@ event_at bytes d j less = get_or-tab (event_of (words_of bytes)) d 0 (event_coun
 pub numbered_events : (good : Event → Bool) (i last : ℕ) (events : List Event) → Numbered (event_rules good i last events)
 unfolding event_rules
 numbered_events good i last [] = tt
-numbered_events good i last (e ∷ rest) = (omega arith, (omega arith, numbered_events good _ _ rest))
+numbered_events good i last (e ∷ rest) = (omega arith, (omega arith, numbered_events good (i + 1) e.instant rest))
 
 pub numbered_check : (plan_bytes event_bytes : List ℕ) → Numbered (check_rules plan_bytes event_bytes)
 numbered_check plan_bytes event_bytes =

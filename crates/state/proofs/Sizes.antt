@@ -20,12 +20,12 @@ use Rattle.state.specs.contracts.State as state
 task_sized : (x : TaskState) (vs : List Val) → Is (row task_state.the_type) x vs → sized_task x ≡ true
 task_sized x vs p =
     let ports = p.1.1.1.1.1.1 in
-    let latched : length x.latched ≡ max_ports = sym (length-map x.latched _) ∙ ports.0.1.0.1 in
-    let held : length x.held ≡ max_ports = sym (length-map x.held _) ∙ ports.1.0.1.0.1 in
+    let latched : length x.latched ≡ max_ports = ports.0.1.0.1 in
+    let held : length x.held ≡ max_ports = ports.1.0.1.0.1 in
     rw (eq-eqb _ _ latched, eq-eqb _ _ held)
 
 tasks_sized : (xs : List TaskState) (us : List Val)
-    → shadow (each (task_state.the_field).row.Denot (task_state.the_field).row.own_val (map (task_state.the_field).into xs) us) → all sized_task xs ≡ true
+    → shadow (each (task_state.the_row).Denot (task_state.the_row).own_val xs us) → all sized_task xs ≡ true
 unfolding all
 tasks_sized [] us s = refl
 tasks_sized (x ∷ xs) [] s = absurd s
@@ -35,6 +35,6 @@ pub state_sized : (s : State) (vs : List Val) → Is (row state.the_type) s vs �
 unfolding sized
 state_sized s vs p =
     let lists = p.1.1.1.1 in
-    let signals : length s.signals ≡ max_signals = sym (length-map s.signals _) ∙ lists.0.1.0.1 in
-    let tasks : length s.tasks ≡ max_tasks = sym (length-map s.tasks _) ∙ lists.1.0.1.0.1 in
+    let signals : length s.signals ≡ max_signals = lists.0.1.0.1 in
+    let tasks : length s.tasks ≡ max_tasks = lists.1.0.1.0.1 in
     rw (eq-eqb _ _ signals, eq-eqb _ _ tasks) (tasks_sized s.tasks lists.1.0.0 lists.1.0.1.1)

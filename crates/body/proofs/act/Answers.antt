@@ -6,7 +6,7 @@ pub returns-in-1 : goal.returns-in-1
 unfolding do_action
 returns-in-1 c = rw (
       ← c.known-kind.ensures,
-      c.in-1.keys1,
+      c.in-1.is,
       ← c.known-a.ensures,
       ← c.known-c.ensures,
     )
@@ -16,7 +16,7 @@ pub returns-in-2 : goal.returns-in-2
 unfolding do_action
 returns-in-2 c = rw (
       ← c.known-kind.ensures,
-      c.in-1.keys2,
+      c.in-2.is,
       ← c.known-a.ensures,
       ← c.known-c.ensures,
       ← c.get-m.ensures,
@@ -27,7 +27,7 @@ pub returns-in-3 : goal.returns-in-3
 unfolding do_action
 returns-in-3 c = rw (
       ← c.known-kind.ensures,
-      c.in-1.keys3,
+      c.in-3.is,
       ← c.known-a.ensures,
       ← c.known-c.ensures,
       ← c.get-m.ensures,
@@ -38,7 +38,7 @@ returns-in-3 c = rw (
 
 pub returns-in_default : goal.returns-in_default
 unfolding do_action
-returns-in_default c = let other = c.in-1.rest in
+returns-in_default c = let other = c.in_default.is in
     rw (
       ← c.known-kind.ensures,
       ne_eqb _ _ other.0.0.1,

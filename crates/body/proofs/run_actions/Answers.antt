@@ -14,7 +14,7 @@ loop-j-init c = (search rules, search rules, rw sub-zero)
 pub loop-j-preserved : goal.loop-j-preserved
 loop-j-preserved c = (
       search rules,
-      c.perform_at.auto.1.1.1.1.0 ∙ c.loop-j.invariant.1,
+      c.perform_at.auto.held ∙ c.loop-j.invariant.1,
       rw (
         c.loop-j.invariant.2,
         turn_more _ _ _ _ _ c.loop-j-test.true,

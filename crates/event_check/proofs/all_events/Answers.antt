@@ -20,7 +20,7 @@ returns-then-not-accepted c = rw (
       verdict-more _ _ _ _ _ c.loop-i-test.true,
       ← c.one_event-answer.ensures,
       ← c.accepted.ensures,
-      not-true c.accepted.result c.if-not-accepted.true,
+      c.if-not-accepted.true,
     )
 
 pub loop-i-preserved : goal.loop-i-preserved
@@ -31,7 +31,7 @@ loop-i-preserved c = (
     verdict-more _ _ _ _ _ c.loop-i-test.true,
     ← c.one_event-answer.ensures,
     ← c.accepted.ensures,
-    not-false c.accepted.result c.if-not-accepted.false,
+    c.if-not-accepted.false,
     c.known-last.ensures,
   ),
 )

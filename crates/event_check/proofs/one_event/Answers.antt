@@ -5,7 +5,7 @@ use Rattle.event_check.proofs.one_event.Goals as goal
 
 pub returns-then-not-instant_holds : goal.returns-then-not-instant_holds
 unfolding first_broken
-returns-then-not-instant_holds c = rw (← c.known-instant.ensures, ← c.instant_holds.ensures, not-true c.instant_holds.result c.if-not-instant_holds.true)
+returns-then-not-instant_holds c = rw (← c.known-instant.ensures, ← c.instant_holds.ensures, c.if-not-instant_holds.true)
 
 pub returns-then-not-content_holds : goal.returns-then-not-content_holds
 unfolding first_broken
@@ -13,8 +13,8 @@ returns-then-not-content_holds c = rw (
       ← c.content_holds.ensures,
       ← c.known-instant.ensures,
       ← c.instant_holds.ensures,
-      not-false c.instant_holds.result c.if-not-instant_holds.false,
-      not-true c.content_holds.result c.if-not-content_holds.true,
+      c.if-not-instant_holds.false,
+      c.if-not-content_holds.true,
     )
 
 pub returns : goal.returns
@@ -23,6 +23,6 @@ returns c = rw (
       ← c.content_holds.ensures,
       ← c.known-instant.ensures,
       ← c.instant_holds.ensures,
-      not-false c.instant_holds.result c.if-not-instant_holds.false,
-      not-false c.content_holds.result c.if-not-content_holds.false,
+      c.if-not-instant_holds.false,
+      c.if-not-content_holds.false,
     )

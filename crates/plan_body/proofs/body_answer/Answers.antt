@@ -9,14 +9,14 @@ use Rattle.plan_body.proofs.body_answer.Goals as goal
 pub returns-then-not-accepted : goal.returns-then-not-accepted
 returns-then-not-accepted c = c.check-answer.ensures
     ∙ sym (plan_decides c.args.plan.now c.args.task
-    (asked false c.accepted.result _ _ c.accepted.ensures (not-true c.accepted.result c.if-not-accepted.true) c.check-answer.ensures))
+    (asked false c.accepted.result _ _ c.accepted.ensures c.if-not-accepted.true c.check-answer.ensures))
 
 pub returns-then-task-word : goal.returns-then-task-word
 returns-then-task-word c = sym (task_decides c.args.plan.now c.args.task
-    (asked true c.accepted.result _ _ c.accepted.ensures (not-false c.accepted.result c.if-not-accepted.false) c.check-answer.ensures)
+    (asked true c.accepted.result _ _ c.accepted.ensures c.if-not-accepted.false c.check-answer.ensures)
     true (rw (← c.word.ensures) (lt-ltb _ _ c.if-task-word.true)))
 
 pub returns : goal.returns
 returns c = sym (task_decides c.args.plan.now c.args.task
-    (asked true c.accepted.result _ _ c.accepted.ensures (not-false c.accepted.result c.if-not-accepted.false) c.check-answer.ensures)
+    (asked true c.accepted.result _ _ c.accepted.ensures c.if-not-accepted.false c.check-answer.ensures)
     false (rw (← c.word.ensures) (le-ltb _ _ c.if-task-word.false)))

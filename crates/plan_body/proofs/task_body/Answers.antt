@@ -41,7 +41,7 @@ inside c =
     (task_bytes start.plan.now (accepted start.plan.now seen.accepted) start.task seen.below)
 
 pub returns-then-not-accepted : goal.returns-then-not-accepted
-returns-then-not-accepted c = let refused = accepts answer false (not-true c.accepted.result c.if-not-accepted.true) in
+returns-then-not-accepted c = let refused = accepts answer false c.if-not-accepted.true in
     record { body = rw refused (record { stands = refl; holds = refl }); said = told answer }
 
 pub slice_bounds-result-end-2 : goal.slice_bounds-result-end-2
@@ -51,7 +51,7 @@ pub returns : goal.returns
 returns c = let first = c.start_of.result * 4 in
     let count = c.length_of.result * 4 in
     let size : first + count - first ≡ count = omega arith in
-    let found = accepts answer true (not-false c.accepted.result c.if-not-accepted.false) in
+    let found = accepts answer true c.if-not-accepted.false in
     record {
       body = rw (found, ← c.start_of.ensures, ← c.length_of.ensures) (record { stands = refl; holds = rw size });
       said = told answer;

@@ -19,39 +19,39 @@ shape-length part e = sym (simp tests at e).1 ∙ words_length part
 
 pub returns-then-not-shape_holds : goal.returns-then-not-shape_holds
 unfolding first_broken
-returns-then-not-shape_holds c = rw (← c.shape_holds.ensures, not-true c.shape_holds.result c.if-not-shape_holds.true)
+returns-then-not-shape_holds c = rw (← c.shape_holds.ensures, c.if-not-shape_holds.true)
 
 pub returns-then-not-timing_holds : goal.returns-then-not-timing_holds
 unfolding first_broken
 returns-then-not-timing_holds c = rw (
       ← c.shape_holds.ensures,
-      not-false c.shape_holds.result c.if-not-shape_holds.false,
+      c.if-not-shape_holds.false,
       ← c.timing_holds.ensures,
-      not-true c.timing_holds.result c.if-not-timing_holds.true,
+      c.if-not-timing_holds.true,
     )
 
 pub body_holds-requires : goal.body_holds-requires
 body_holds-requires c = shape-length c.args.part.now
-    (sym c.shape_holds.ensures ∙ not-false c.shape_holds.result c.if-not-shape_holds.false)
+    (sym c.shape_holds.ensures ∙ c.if-not-shape_holds.false)
 
 pub returns-then-not-body_holds : goal.returns-then-not-body_holds
 unfolding first_broken
 returns-then-not-body_holds c = rw (
       ← c.shape_holds.ensures,
-      not-false c.shape_holds.result c.if-not-shape_holds.false,
+      c.if-not-shape_holds.false,
       ← c.timing_holds.ensures,
-      not-false c.timing_holds.result c.if-not-timing_holds.false,
+      c.if-not-timing_holds.false,
       ← c.body_holds.ensures,
-      not-true c.body_holds.result c.if-not-body_holds.true,
+      c.if-not-body_holds.true,
     )
 
 pub returns : goal.returns
 unfolding first_broken
 returns c = rw (
       ← c.shape_holds.ensures,
-      not-false c.shape_holds.result c.if-not-shape_holds.false,
+      c.if-not-shape_holds.false,
       ← c.timing_holds.ensures,
-      not-false c.timing_holds.result c.if-not-timing_holds.false,
+      c.if-not-timing_holds.false,
       ← c.body_holds.ensures,
-      not-false c.body_holds.result c.if-not-body_holds.false,
+      c.if-not-body_holds.false,
     )

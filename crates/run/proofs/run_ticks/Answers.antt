@@ -39,24 +39,24 @@ loop-done-smaller c = nearer _ _ _ c.loop-done-test.true (c.turn-one.ensures.mov
 
 pub loop-done-preserved : goal.loop-done-preserved
 loop-done-preserved c = (
-  kept_more _ _ _ _ _ _ _ _ _ c.loop-done.invariant.0 _ _ _ c.turn-one.ensures.turned c.if-one.false (record { signals = c.turn-one.auto.1.1.1.1.1.1.1.1.0; tasks = c.turn-one.auto.1.1.1.1.1.1.1.1.1.0; latched = c.turn-one.auto.1.1.1.1.1.1.1.1.1.1.0; held = c.turn-one.auto.1.1.1.1.1.1.1.1.1.1.1.0 }) c.turn-one.auto.1.1.1.1.1.1.1.1.1.1.1.1.0,
+  kept_more _ _ _ _ _ _ _ _ _ c.loop-done.invariant.0 _ _ _ c.turn-one.ensures.turned c.if-one.false (record { signals = c.turn-one.auto.signals; tasks = c.turn-one.auto.tasks; latched = c.turn-one.auto.latched; held = c.turn-one.auto.held }) c.turn-one.auto.trace,
   c.turn-one.ensures.watched,
 )
 
 pub shape_of-signals-then-one : goal.shape_of-signals-then-one
-shape_of-signals-then-one c = c.turn-one.auto.1.1.1.1.1.1.1.1.0 ∙ c.loop-done.invariant.0.long.signals
+shape_of-signals-then-one c = c.turn-one.auto.signals ∙ c.loop-done.invariant.0.long.signals
 
 pub shape_of-tasks-then-one : goal.shape_of-tasks-then-one
-shape_of-tasks-then-one c = c.turn-one.auto.1.1.1.1.1.1.1.1.1.0 ∙ c.loop-done.invariant.0.long.tasks
+shape_of-tasks-then-one c = c.turn-one.auto.tasks ∙ c.loop-done.invariant.0.long.tasks
 
 pub shape_of-latched-then-one : goal.shape_of-latched-then-one
-shape_of-latched-then-one c = c.turn-one.auto.1.1.1.1.1.1.1.1.1.1.0 ∙ c.loop-done.invariant.0.long.latched
+shape_of-latched-then-one c = c.turn-one.auto.latched ∙ c.loop-done.invariant.0.long.latched
 
 pub shape_of-held-then-one : goal.shape_of-held-then-one
-shape_of-held-then-one c = c.turn-one.auto.1.1.1.1.1.1.1.1.1.1.1.0 ∙ c.loop-done.invariant.0.long.held
+shape_of-held-then-one c = c.turn-one.auto.held ∙ c.loop-done.invariant.0.long.held
 
 pub shape_of-trace-then-one : goal.shape_of-trace-then-one
-shape_of-trace-then-one c = c.turn-one.auto.1.1.1.1.1.1.1.1.1.1.1.1.0 ∙ c.loop-done.invariant.0.trace_long
+shape_of-trace-then-one c = c.turn-one.auto.trace ∙ c.loop-done.invariant.0.trace_long
 
 pub shape_of-signals : goal.shape_of-signals
 shape_of-signals c = c.loop-done.invariant.0.long.signals

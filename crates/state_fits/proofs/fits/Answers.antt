@@ -9,8 +9,8 @@ use Rattle.state_fits.proofs.fits.Goals as goal
 pub returns : goal.returns
 unfolding fits
 returns c = let plan = c.args.plan.now in
-    let state = c.args.t3 in
-    let right = state_sized state _ c.well-formed.1.1.0 in
+    let state = c.args.state in
+    let right = state_sized state _ c.well_formed.1.1.0 in
     let place = place_told plan c.args.events.now c.requires state.tick state.place in
     let tasks = apart plan state.tick state.tasks c.smaller-count.result (rw (c.smaller-count.ensures, c.word.ensures)) in
     rw (

@@ -15,7 +15,7 @@ pub overflow_add-result : goal.overflow_add-result
 overflow_add-result c = let p = c.requires.ready in omega (arith, p.tick)
 
 pub shape_of-signals : goal.shape_of-signals
-shape_of-signals c = c.run_urgent-at.auto.1.1.1.1.0 ∙ c.deadlines-written.auto.1.1.1.1.1.0 ∙ c.set_signals.auto.1.1.1.0
+shape_of-signals c = c.run_urgent-at.auto.signals ∙ c.deadlines-written.auto.signals ∙ c.set_signals.auto.signals
 
 pub returns : goal.returns
 unfolding step_called

@@ -13,7 +13,7 @@ loop-p-init c = (refl, refl)
 
 pub loop-p-preserved : goal.loop-p-preserved
 loop-p-preserved c = (
-  c.set_signal.auto.1.1.0 ∙ c.loop-p.invariant.0,
+  c.set_signal.auto.signals ∙ c.loop-p.invariant.0,
   rw (c.loop-p.invariant.1, set_more _ _ _ _ c.loop-p-test.true, c.set_signal.ensures),
 )
 
