@@ -1,5 +1,7 @@
 // Document 01, 'The event list': a reader that stands at one place in the lent list. The functions over the struct are thin:
 // each leaves the work to `read_at` or `place_after`, which take a plain slice and a number.
+#![tactic(auto)]
+
 ghost use Rattle.std.specs.Prelude.{◌≡◌};
 ghost use Rattle.event_reader.specs.Reader.{read_at, place_after};
 

@@ -1,4 +1,6 @@
 // Document 01, 'One tick', step 3: "The choice of the running task reads the lent list of task records."
+#![tactic(auto)]
+
 ghost use Rattle.std.specs.Prelude.{◌≡◌, min};
 ghost use Rattle.urgent.specs.Urgent.{key_of, least_rank};
 

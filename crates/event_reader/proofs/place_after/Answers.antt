@@ -1,5 +1,4 @@
 -- `event_reader::place_after` meets its contract: each branch's test says which case of `place_after` holds.
-use borrow.Author.Rules.{rules}
 use borrow.Author.Tests.{le-ltb, lt-ltb}
 use Rattle.event_reader.proofs.place_after.Goals as goal
 

@@ -1,5 +1,4 @@
 -- `event_reader::read_at` meets its contract: each branch's test says which case of `read_at` holds, and each call of `word` what its word is.
-use borrow.Author.Rules.{rules}
 use borrow.Author.Tests.{le-ltb, lt-ltb}
 use Rattle.event_reader.proofs.read_at.Goals as goal
 

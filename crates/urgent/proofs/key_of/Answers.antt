@@ -1,5 +1,4 @@
 use borrow.Author.Tests.{eq-eqb, ne_eqb}
-use borrow.Author.Rules.{rules}
 use Rattle.urgent.specs.Urgent.{key_of}
 use Rattle.urgent.proofs.key_of.Goals as goal
 
