@@ -8,7 +8,7 @@ use borrow.Author.Rules.{rules}
 use Rattle.apart.proofs.together.Given as goal
 
 abbrev pub invariant-loop-i : goal.invariant-loop-i
-invariant-loop-i l = (l.i ≤ max_tasks) × Filled (task_in (record { l.signals = []; l.tasks = l.tasks; l.latched = l.latched; l.held = l.held })) nowhere max_tasks l.i l.states
+invariant-loop-i l = (l.i ≤ max_tasks) × Filled (task_in (record { signals = []; tasks = l.tasks; latched = l.latched; held = l.held })) nowhere max_tasks l.i l.states
 
 abbrev pub decreases-loop-i : goal.decreases-loop-i
 decreases-loop-i l = max_tasks - l.i

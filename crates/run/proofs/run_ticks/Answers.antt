@@ -10,8 +10,6 @@ use Rattle.run.specs.Run.{Watched}
 use Rattle.run.proofs.Kept.{Kept, AsLong, kept_none, kept_ready, kept_asks, kept_done, kept_more, kept_full, nearer}
 use Rattle.run.proofs.run_ticks.Goals as goal
 
-abbrev arrays : List ℕ → List ℕ → List ℕ → List ℕ → Arrays
-arrays signals tasks latched held = record { signals = signals; tasks = tasks; latched = latched; held = held }
 
 pub most_entries-most-requires : goal.most_entries-most-requires
 most_entries-most-requires c = c.requires.asked.rows

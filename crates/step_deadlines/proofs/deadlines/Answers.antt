@@ -13,20 +13,8 @@ use Rattle.arrays.specs.Arrays.{Arrays}
 use Rattle.steps.specs.Flat.{lapse, called}
 use Rattle.steps.proofs.Laws.{Sofar, sofar_none, rows_done}
 use Rattle.steps.proofs.Called.{sofar_next, sofar_called}
+use Rattle.step_deadlines.proofs.deadlines.Invariants.{arrays}
 use Rattle.step_deadlines.proofs.deadlines.Goals as goal
-
-abbrev arrays : List ℕ → List ℕ → List ℕ → List ℕ → Arrays
-arrays signals tasks latched held = record { signals = signals; tasks = tasks; latched = latched; held = held }
-record Kept (rows : List ℕ) (count t calls : ℕ) (held signals₀ tasks₀ trace₀ : List ℕ) (from : ℕ) (signals tasks trace : List ℕ) (at j : ℕ) : Type 0 where
-  here : j < count → has calls j ≡ true
-  turns : ℕ
-  passed : turns ≤ j
-  most : turns ≤ count
-  room : at ≤ from + turns * 2 ^ 35
-  signals-long : length signals ≡ length signals₀
-  tasks-long : length tasks ≡ length tasks₀
-  trace_long : length trace ≡ length trace₀
-  sofar : (latched : List ℕ) → Sofar (called calls (lapse t rows)) count (arrays signals₀ tasks₀ latched held) trace₀ from (arrays signals tasks latched held) trace at j
 
 pub loop-j-init : goal.loop-j-init
 loop-j-init c = let e = c.next-j.ensures in

@@ -15,20 +15,8 @@ use Rattle.arrays.specs.Arrays.{Arrays}
 use Rattle.steps.specs.Flat.{between, grant, called}
 use Rattle.steps.proofs.Laws.{Sofar, sofar_none, rows_done}
 use Rattle.steps.proofs.Called.{sofar_next, sofar_called}
+use Rattle.step_releases.proofs.releases.Invariants.{arrays}
 use Rattle.step_releases.proofs.releases.Goals as goal
-
-abbrev arrays : List ℕ → List ℕ → List ℕ → List ℕ → Arrays
-arrays signals tasks latched held = record { signals = signals; tasks = tasks; latched = latched; held = held }
-record Kept (rows : List ℕ) (count t calls : ℕ) (now : List Event) (signals tasks₀ latched₀ trace₀ : List ℕ) (from : ℕ) (tasks latched trace : List ℕ) (at j : ℕ) : Type 0 where
-  here : j < count → has calls j ≡ true
-  turns : ℕ
-  passed : turns ≤ j
-  most : turns ≤ count
-  room : at ≤ from + turns * 2 ^ 35
-  tasks-long : length tasks ≡ length tasks₀
-  latched-long : length latched ≡ length latched₀
-  trace_long : length trace ≡ length trace₀
-  sofar : (held : List ℕ) → Sofar (called calls (grant t rows now)) count (arrays signals tasks₀ latched₀ held) trace₀ from (arrays signals tasks latched held) trace at j
 
 pub loop-j-init : goal.loop-j-init
 loop-j-init c = let e = c.next-j.ensures in

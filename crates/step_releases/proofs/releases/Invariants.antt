@@ -16,6 +16,20 @@ use Rattle.steps.proofs.Laws.{Sofar, sofar_none, rows_done}
 use Rattle.steps.proofs.Called.{sofar_next, sofar_called}
 use Rattle.step_releases.proofs.releases.Given as goal
 
+abbrev pub arrays : List ℕ → List ℕ → List ℕ → List ℕ → Arrays
+arrays signals tasks latched held = record { signals = signals; tasks = tasks; latched = latched; held = held }
+
+pub record Kept (rows : List ℕ) (count t calls : ℕ) (now : List Event) (signals tasks₀ latched₀ trace₀ : List ℕ) (from : ℕ) (tasks latched trace : List ℕ) (at j : ℕ) : Type 0 where
+  pub here : j < count → has calls j ≡ true
+  pub turns : ℕ
+  pub passed : turns ≤ j
+  pub most : turns ≤ count
+  pub room : at ≤ from + turns * 2 ^ 35
+  pub tasks-long : length tasks ≡ length tasks₀
+  pub latched-long : length latched ≡ length latched₀
+  pub trace_long : length trace ≡ length trace₀
+  pub sofar : (held : List ℕ) → Sofar (called calls (grant t rows now)) count (arrays signals tasks₀ latched₀ held) trace₀ from (arrays signals tasks latched held) trace at j
+
 abbrev pub invariant-loop-j : goal.invariant-loop-j
 invariant-loop-j l = Kept l.rows l.count l.moment.t l.calls (between (words_of l.events) l.moment.first l.moment.last) l.signals l.initial.tasks l.initial.latched l.initial.trace l.from l.tasks l.latched l.trace l.at l.j
 

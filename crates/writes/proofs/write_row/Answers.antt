@@ -18,17 +18,6 @@ use Rattle.steps.specs.Flat.{task_of_row, row_writes, write_entries}
 use Rattle.steps.proofs.Laws.{write_more, write_done, entries_more, entries_done, writes_length}
 use Rattle.writes.proofs.write_row.Goals as goal
 
-abbrev write_at : List ℕ → ℕ → List ℕ → ℕ → Write
-write_at rows row held p = record { signal = row_field rows row (24 + p); value = get_or held (task_of_row rows row * 8 + p) 0 }
-record Sofar (rows : List ℕ) (row t : ℕ) (held signals₀ trace₀ : List ℕ) (from count : ℕ) (signals trace : List ℕ) (at p : ℕ) : Type 0 where
-  most : p ≤ count
-  place : at ≡ from + 5 * p
-  long : length signals ≡ length signals₀
-  kept : length trace ≡ length trace₀
-  writes : write_all (tab (write_at rows row held) 0 count) signals₀ ≡ write_all (tab (write_at rows row held) p (count - p)) signals
-  traced : over trace₀ from (write_entries t (task_of_row rows row) (tab (write_at rows row held) 0 count))
-      ≡ over trace at (write_entries t (task_of_row rows row) (tab (write_at rows row held) p (count - p)))
-
 pub loop-p-init : goal.loop-p-init
 loop-p-init c = record { most = search rules; place = search rules; long = refl; kept = refl; writes = rw sub-zero; traced = rw sub-zero }
 

@@ -16,6 +16,17 @@ use Rattle.steps.specs.Flat.{task_of_row, row_writes, write_entries}
 use Rattle.steps.proofs.Laws.{write_more, write_done, entries_more, entries_done, writes_length}
 use Rattle.writes.proofs.write_row.Given as goal
 
+abbrev pub write_at : List ℕ → ℕ → List ℕ → ℕ → Write
+write_at rows row held p = record { signal = row_field rows row (24 + p); value = get_or held (task_of_row rows row * 8 + p) 0 }
+pub record Sofar (rows : List ℕ) (row t : ℕ) (held signals₀ trace₀ : List ℕ) (from count : ℕ) (signals trace : List ℕ) (at p : ℕ) : Type 0 where
+  pub most : p ≤ count
+  pub place : at ≡ from + 5 * p
+  pub long : length signals ≡ length signals₀
+  pub kept : length trace ≡ length trace₀
+  pub writes : write_all (tab (write_at rows row held) 0 count) signals₀ ≡ write_all (tab (write_at rows row held) p (count - p)) signals
+  pub traced : over trace₀ from (write_entries t (task_of_row rows row) (tab (write_at rows row held) 0 count))
+      ≡ over trace at (write_entries t (task_of_row rows row) (tab (write_at rows row held) p (count - p)))
+
 abbrev pub invariant-loop-p : goal.invariant-loop-p
 invariant-loop-p l = Sofar l.rows l.row l.t l.held l.initial.signals l.initial.trace l.from l.count l.signals l.trace l.at l.p
 
