@@ -20,7 +20,7 @@ pub overflow_add-bound-2 : goal.overflow_add-bound-2
 overflow_add-bound-2 c = let few = (events_few _ _ _ _ _ c.requires.ready c.requires.last_is).1 in let m = c.requires.most_is.1 in let w = c.requires.ready.word in omega arith
 
 pub returns-then-bound-words : goal.returns-then-bound-words
-returns-then-bound-words c = sym (bound_fits _ _ _ a _ _ _ _ c.requires.last_is c.requires.most_is.0 c.if-bound-words.true)
+returns-then-bound-words c = λ plan a e. sym (bound_fits _ _ _ a _ _ _ _ c.requires.last_is c.requires.most_is.0 c.if-bound-words.true)
 
 pub returns : goal.returns
-returns c = rw (c.records_end-end.ensures plan a e)
+returns c = λ plan a e. rw (c.records_end-end.ensures plan a e)
