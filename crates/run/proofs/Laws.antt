@@ -1,13 +1,13 @@
 -- A run over the arrays, one tick at a time: k done of n.
 use Prim.Native.Nat.{ℕ, suc, ◌+◌, ◌-◌, ◌*◌, ◌<◌, ◌≤◌}
 use mathlib.Core.Path.{◌≡◌, sym, ◌∙◌}
-use mathlib.Core.Bool.{Bool, true, false, not}
+use mathlib.Core.Bool.{Bool, true, false}
 use mathlib.Core.List.{List}
 use native.Mathlib.Nat.{sub-add-eq}
 use native.Mathlib.Omega.{arith}
 use lib.ListN.{length, length-append}
 use lib.Dec.{leb}
-use borrow.Author.Tests.{le-leb, lt-leb, leb-true, leb-false, not-true, not-false}
+use borrow.Author.Tests.{le-leb, lt-leb, leb-true, leb-false}
 use Rattle.trace.specs.Trace.{over}
 use Rattle.trace.proofs.Laws.{over-append}
 use Rattle.arrays.specs.Arrays.{Arrays}
@@ -16,11 +16,11 @@ use Rattle.run.specs.Run.{Went, halted, further, run_flat, Sofar}
 
 -- what the question comes to whether a tick's records, which end at word `end`, fit in a trace that still has its first length
 module _ (fits : Bool) (end words words₀ : ℕ) (e : fits ≡ leb end words) (l : words ≡ words₀) where
-  pub enough : not fits ≡ false → end ≤ words₀
-  enough h = rw l at (leb-true end words (sym e ∙ not-false fits h))
+  pub enough : fits ≡ true → end ≤ words₀
+  enough h = rw l at (leb-true end words (sym e ∙ h))
 
-  pub short : not fits ≡ true → words₀ < end
-  short h = rw l at (leb-false end words (sym e ∙ not-true fits h))
+  pub short : fits ≡ false → words₀ < end
+  short h = rw l at (leb-false end words (sym e ∙ h))
 
 -- a trace of so many words, filled up to word `at`
 module _ (g : Given) (words at n t place : ℕ) (a : Arrays) where

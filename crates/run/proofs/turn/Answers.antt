@@ -24,7 +24,16 @@ pub returns-then-one-ne0 : goal.returns-then-one-ne0
 returns-then-one-ne0 c = record { turned = c.rest-one.ensures.turned _ _ _ _ _ c.requires.at_inside.0; moves = λ f. let n = c.if-one-ne0.true in omega (arith, n); watched = record { distinct = c.requires.watched.distinct; instants = c.rest-one.ensures.wakes } }
 
 pub tick_once-requires : goal.tick_once-requires
-tick_once-requires c = rw (c.rest-one.ensures.still c.if-one-ne0.false) (c.requires.ready, (c.requires.sized, (c.requires.most_is, (c.requires.at_inside.0, (c.requires.watched, (c.requires.whole_bodies, (c.end_of-last.ensures.value, c.calls-calls.ensures)))))))
+tick_once-requires c = rw (c.rest-one.ensures.still c.if-one-ne0.false) (record {
+      ready = c.requires.ready;
+      sized = c.requires.sized;
+      most_is = c.requires.most_is;
+      at_inside = c.requires.at_inside.0;
+      watched = c.requires.watched;
+      whole_bodies = c.requires.whole_bodies;
+      last_is = c.end_of-last.ensures.value;
+      others_later = c.calls-calls.ensures;
+    })
 
 pub returns : goal.returns
 returns c = record { turned = rw (one_more _ c.requires.at_inside.1, c.rest-one.ensures.still c.if-one-ne0.false) at (c.tick_once.ensures.turned (c.args.left - 1)); moves = λ f. let t = rw f at c.tick_once.ensures.moves in omega arith; watched = c.tick_once.ensures.watched }
