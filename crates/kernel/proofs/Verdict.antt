@@ -1,10 +1,9 @@
 -- The verdict of a call: the plan's and the events', then 12 and 13.
 use Prim.Native.Nat.{ℕ, ◌+◌}
 use mathlib.Core.Path.{◌≡◌, refl, sym, ap, ◌∙◌}
-use mathlib.Core.Bool.{Bool, true, false, cond, not}
+use mathlib.Core.Bool.{Bool, true, false, cond}
 use mathlib.Core.List.{List, [], ◌∷◌, ◌++◌}
 use lib.Dec.{eqb, leb}
-use borrow.Author.Tests.{not-true, not-false}
 use Rattle.limits.specs.Limits.{max_time}
 use Rattle.answers.specs.Answers.{Verdict, verdict, Rule, rule, first_broken, or_else}
 use Rattle.answers.proofs.Laws.{broken_append}
@@ -18,11 +17,11 @@ use Rattle.kernel.specs.Call.{call_verdict}
 
 -- ---- `if !answers::accepted(answer)`: what its branch, and what passing it by, tell of the verdict behind the answer
 module _ (t : Bool) (v w : Verdict) (question : t ≡ eqb v.number 0) where
-  pub refused_by : not t ≡ true → v ≡ w → eqb w.number 0 ≡ false
-  refused_by taken same = asked false t v w question (not-true t taken) same
+  pub refused_by : t ≡ false → v ≡ w → eqb w.number 0 ≡ false
+  refused_by taken same = asked false t v w question taken same
 
-  pub accepted_by : not t ≡ false → v ≡ w → eqb w.number 0 ≡ true
-  accepted_by left same = asked true t v w question (not-false t left) same
+  pub accepted_by : t ≡ true → v ≡ w → eqb w.number 0 ≡ true
+  accepted_by left same = asked true t v w question left same
 
 -- ---- the verdict of a call
 module _ (plan_bytes event_bytes : List ℕ) (s : State) (ticks : ℕ) where
@@ -45,12 +44,12 @@ module _ (plan_bytes event_bytes : List ℕ) (s : State) (ticks : ℕ) where
 
   -- after the check has accepted, each question of the two decides: f says whether the state fits, l whether there is time
   module _ (checked : eqb (events_verdict plan_bytes event_bytes).number 0 ≡ true) (f : Bool) (fitted : f ≡ fit) where
-    pub unfit_is_12 : not f ≡ true → call_verdict plan_bytes event_bytes s ticks ≡ verdict 12 0
-    unfit_is_12 taken = state_decides checked ∙ rw (← fitted, not-true f taken)
+    pub unfit_is_12 : f ≡ false → call_verdict plan_bytes event_bytes s ticks ≡ verdict 12 0
+    unfit_is_12 taken = state_decides checked ∙ rw (← fitted, taken)
 
-    module _ (fits-left : not f ≡ false) (l : Bool) (counted : l ≡ soon) where
-      pub late_is_13 : not l ≡ true → call_verdict plan_bytes event_bytes s ticks ≡ verdict 13 0
-      late_is_13 taken = state_decides checked ∙ rw (← fitted, not-false f fits-left, ← counted, not-true l taken)
+    module _ (fits-left : f ≡ true) (l : Bool) (counted : l ≡ soon) where
+      pub late_is_13 : l ≡ false → call_verdict plan_bytes event_bytes s ticks ≡ verdict 13 0
+      late_is_13 taken = state_decides checked ∙ rw (← fitted, fits-left, ← counted, taken)
 
-      pub all-hold_is_0 : not l ≡ false → call_verdict plan_bytes event_bytes s ticks ≡ verdict 0 0
-      all-hold_is_0 left = state_decides checked ∙ rw (← fitted, not-false f fits-left, ← counted, not-false l left)
+      pub all-hold_is_0 : l ≡ true → call_verdict plan_bytes event_bytes s ticks ≡ verdict 0 0
+      all-hold_is_0 left = state_decides checked ∙ rw (← fitted, fits-left, ← counted, left)

@@ -21,16 +21,16 @@ fits-requires c = eqb-true _ 0 (accepted_by _ _ _ c.accepted.ensures c.if-not-ac
 pub returns-then-not-fits : goal.returns-then-not-fits
 returns-then-not-fits c = let given = c.args in
     let accepted = accepted_by _ _ _ c.accepted.ensures c.if-not-accepted.false c.check-answer.ensures in
-    sym (unfit_is_12 given.plan.now given.events.now given.state given.asked accepted _ c.fits2.ensures c.if-not-fits.true)
+    sym (unfit_is_12 given.plan.now given.events.now given.state given.asked accepted _ c.fits.ensures c.if-not-fits.true)
 
 pub returns-then-not-ticks_hold : goal.returns-then-not-ticks_hold
 returns-then-not-ticks_hold c = let given = c.args in
     let accepted = accepted_by _ _ _ c.accepted.ensures c.if-not-accepted.false c.check-answer.ensures in
-    sym (late_is_13 given.plan.now given.events.now given.state given.asked accepted _ c.fits2.ensures c.if-not-fits.false
+    sym (late_is_13 given.plan.now given.events.now given.state given.asked accepted _ c.fits.ensures c.if-not-fits.false
     _ c.ticks_hold.ensures c.if-not-ticks_hold.true)
 
 pub returns : goal.returns
 returns c = let given = c.args in
     let accepted = accepted_by _ _ _ c.accepted.ensures c.if-not-accepted.false c.check-answer.ensures in
-    sym (all-hold_is_0 given.plan.now given.events.now given.state given.asked accepted _ c.fits2.ensures c.if-not-fits.false
+    sym (all-hold_is_0 given.plan.now given.events.now given.state given.asked accepted _ c.fits.ensures c.if-not-fits.false
     _ c.ticks_hold.ensures c.if-not-ticks_hold.false)

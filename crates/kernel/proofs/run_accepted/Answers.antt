@@ -21,7 +21,7 @@ pub run_ticks-ran-requires : goal.run_ticks-ran-requires
 run_ticks-ran-requires c = let given = c.args in
     let good = c.requires in
     let schedule = c.schedule_of-count.ensures in
-    let arrays = c.take_apart.ensures in record { asked = may_run_of given.plan.now given.events.now given.state given.asked good _ _ schedule; sized = rw (arrays.0, arrays.1.0, arrays.1.1) (sizes given.plan.now given.events.now given.state given.asked good); distinct = distinct_of given.plan.now given.events.now given.state given.asked good _ _ schedule; whole_bodies = bodies_of_lem given.plan.now given.events.now given.state given.asked good _ _ schedule }
+    let arrays = c.take_apart.ensures in record { asked = may_run_of given.plan.now given.events.now given.state given.asked good _ _ schedule; sized = rw (arrays.tasks, arrays.latched, arrays.held) (sizes given.plan.now given.events.now given.state given.asked good); distinct = distinct_of given.plan.now given.events.now given.state given.asked good _ _ schedule; whole_bodies = bodies_of_lem given.plan.now given.events.now given.state given.asked good _ _ schedule }
 
 pub returns : goal.returns
 returns c = let given = c.args in
@@ -30,7 +30,7 @@ returns c = let given = c.args in
     let arrays = c.take_apart.ensures in
     let end = c.run_ticks-ran.result.clock in
     let q = call-is given.plan.now given.events.now given.state given.asked good (length given.trace.now) in
-    let e = rw (arrays.0, arrays.1.0, arrays.1.1, ap (λ (s : Schedule). s.rows) schedule, ap (λ (s : Schedule). s.count) schedule) at c.run_ticks-ran.ensures in
+    let e = rw (arrays.tasks, arrays.latched, arrays.held, ap (λ (s : Schedule). s.rows) schedule, ap (λ (s : Schedule). s.count) schedule) at c.run_ticks-ran.ensures in
     let w = e.word in
     record {
       answer = rw q (c.end_answer-answer.ensures ∙ rw e.full);
