@@ -53,7 +53,7 @@ clash_below number i l (xs ∷ rest) h = (h, clash_below number (i + 1) (after_a
 events_below : (good : Event → Bool) (i last : ℕ) (events : List Event) → Below 12 (event_rules good i last events)
 unfolding event_rules
 events_below good i last [] = tt
-events_below good i last (e ∷ rest) = (omega arith, (omega arith, events_below good _ _ rest))
+events_below good i last (e ∷ rest) = (omega arith, (omega arith, events_below good (i + 1) e.instant rest))
 
 -- 1 to 8
 plan_rules_below : (bytes : List ℕ) → Below 9 (plan_rules bytes)
