@@ -1,4 +1,3 @@
--- the transitions from j on, with the best so far, give what all of them give
 use Rattle.std.proofs.Common.{◌≡◌, ◌+◌, ◌-◌, ◌*◌, ◌≤◌, length, rules}
 use native.Mathlib.Nat.{sub-zero}
 use Rattle.words.specs.Words.{words_of}

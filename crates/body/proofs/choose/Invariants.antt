@@ -8,6 +8,7 @@ use Rattle.body.specs.Steps.{in_hand}
 use Rattle.body.proofs.Laws.{turn_more, turn_done}
 use Rattle.body.proofs.choose.Given as goal
 
+-- the transitions from j on, with the best so far, give what all of them give
 abbrev pub invariant-loop-j : goal.invariant-loop-j
 invariant-loop-j l = (l.j ≤ l.transitions) × (l.best * 4 + 16 ≤ length l.part)
     × (fires l.latched l.machine (tab (λ i. transition_at (words_of l.part) (transitions_at (words_of l.part) + i * 4)) 0 l.transitions)

@@ -1,4 +1,3 @@
--- the actions from j on, on what those before left, leave what all of them leave
 use Rattle.std.proofs.Common.{◌≡◌, ◌+◌, ◌-◌, ◌*◌, ◌≤◌, length, ◌∙◌, rules}
 use native.Mathlib.Nat.{sub-zero}
 use Rattle.words.specs.Words.{words_of}

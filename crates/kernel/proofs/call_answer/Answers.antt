@@ -1,15 +1,10 @@
--- The points that the needs name: `checked` is after the check of plan and events, `asked` after the question whether its answer
--- accepts, `fitted` after the state is held to them, `counted` after the ticks are. `given` is what the function is called with.
--- the plan or the events are refused
--- 12
--- 13
--- 0
 use mathlib.Core.Path.{◌≡◌, sym, ◌∙◌}
 use borrow.Author.Rules.{rules}
 use borrow.Author.Tests.{eqb-true}
 use Rattle.kernel.proofs.Verdict.{refused_by, accepted_by, check_decides, unfit_is_12, late_is_13, all-hold_is_0}
 use Rattle.kernel.proofs.call_answer.Goals as goal
 
+-- the plan or the events are refused
 pub returns-then-not-accepted : goal.returns-then-not-accepted
 returns-then-not-accepted c = let given = c.args in
     let refused = refused_by _ _ _ c.accepted.ensures c.if-not-accepted.true c.check-answer.ensures in
@@ -18,17 +13,20 @@ returns-then-not-accepted c = let given = c.args in
 pub fits-requires : goal.fits-requires
 fits-requires c = eqb-true _ 0 (accepted_by _ _ _ c.accepted.ensures c.if-not-accepted.false c.check-answer.ensures)
 
+-- 12
 pub returns-then-not-fits : goal.returns-then-not-fits
 returns-then-not-fits c = let given = c.args in
     let accepted = accepted_by _ _ _ c.accepted.ensures c.if-not-accepted.false c.check-answer.ensures in
     sym (unfit_is_12 given.plan.now given.events.now given.state given.asked accepted _ c.fits.ensures c.if-not-fits.true)
 
+-- 13
 pub returns-then-not-ticks_hold : goal.returns-then-not-ticks_hold
 returns-then-not-ticks_hold c = let given = c.args in
     let accepted = accepted_by _ _ _ c.accepted.ensures c.if-not-accepted.false c.check-answer.ensures in
     sym (late_is_13 given.plan.now given.events.now given.state given.asked accepted _ c.fits.ensures c.if-not-fits.false
     _ c.ticks_hold.ensures c.if-not-ticks_hold.true)
 
+-- 0
 pub returns : goal.returns
 returns c = let given = c.args in
     let accepted = accepted_by _ _ _ c.accepted.ensures c.if-not-accepted.false c.check-answer.ensures in

@@ -1,5 +1,3 @@
--- The points that the needs name: `answered` is after the call's number is found, `asked` after the question whether it accepts.
--- `given` is what the function is called with.
 use mathlib.Core.Path.{◌≡◌}
 use borrow.Author.Rules.{rules}
 use borrow.Author.Tests.{eqb-true}

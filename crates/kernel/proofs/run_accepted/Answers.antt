@@ -1,6 +1,3 @@
--- The points that the needs name: `read` is after the plan's rows are read, `taken` after the state is taken apart, `ran` after the
--- ticks are run, `answered` after the answer is chosen, `joined` after the state is put together. `given` is what the function is
--- called with, `good` that no rule refuses it.
 use Prim.Native.Nat.{ℕ, ◌*◌}
 use native.Mathlib.Omega.{arith}
 use mathlib.Core.Path.{◌≡◌, refl, sym, ap, ◌∙◌}

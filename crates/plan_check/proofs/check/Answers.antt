@@ -1,5 +1,3 @@
--- the first three rules hold
--- what the tasks' answer says
 use Prim.Native.Nat.{ℕ}
 use mathlib.Core.Path.{◌≡◌, sym, ◌∙◌}
 use mathlib.Core.Bool.{Bool, true, false}

@@ -1,4 +1,3 @@
--- where rule 4 holds, the counts of a body say how long it is
 use Prim.Native.Nat.{ℕ, ◌+◌, ◌*◌, ◌/◌}
 use mathlib.Core.Path.{◌≡◌, sym, ◌∙◌}
 use mathlib.Core.Bool.{true}
@@ -14,6 +13,7 @@ use Rattle.plan.specs.File.{actions_at, action_count}
 use Rattle.plan.specs.Rules.{shape_rule}
 use Rattle.plan_task.proofs.task_answer.Goals as goal
 
+-- where rule 4 holds, the counts of a body say how long it is
 shape-length : (part : List ℕ) → shape_rule (words_of part) ≡ true → actions_at (words_of part) + action_count (words_of part) * 5 ≡ length part / 4
 shape-length part e = sym (simp tests at e).1 ∙ words_length part
 

@@ -1,4 +1,3 @@
--- no more are counted than places are passed, so the sum does not wrap
 use Prim.Native.Nat.{◌≤◌, ◌+◌, ◌-◌}
 use mathlib.Core.Path.{◌≡◌}
 use native.Mathlib.Omega.{arith}

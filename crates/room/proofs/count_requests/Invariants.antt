@@ -9,6 +9,7 @@ use Rattle.steps.specs.Flat.{between}
 use Rattle.step_releases.proofs.Laws.{asks_more, asks_done}
 use Rattle.room.proofs.count_requests.Given as goal
 
+-- no more are counted than places are passed, so the sum does not wrap
 abbrev pub invariant-loop-p : goal.invariant-loop-p
 invariant-loop-p l = (l.sum + l.from ≤ l.p) × (requests l.task (between (words_of l.events) l.from l.to) ≡ l.sum + requests l.task (between (words_of l.events) l.p l.to))
 

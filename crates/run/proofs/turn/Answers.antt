@@ -1,10 +1,10 @@
--- a number above 0 is one more than another
 use Prim.Native.Nat.{ℕ, suc, ◌-◌, ◌<◌}
 use native.Mathlib.Omega.{arith}
 use mathlib.Core.Path.{◌≡◌}
 use borrow.Author.Rules.{rules}
 use Rattle.run.proofs.turn.Goals as goal
 
+-- a number above 0 is one more than another
 one_more : (n : ℕ) → 0 < n → suc (n - 1) ≡ n
 one_more n h = omega arith
 

@@ -17,6 +17,7 @@ use Rattle.step_deadlines.proofs.deadlines.Given as goal
 abbrev pub arrays : List ℕ → List ℕ → List ℕ → List ℕ → Arrays
 arrays signals tasks latched held = record { signals = signals; tasks = tasks; latched = latched; held = held }
 
+-- `turns` is how many rows had theirs: each adds so many words at most
 pub record Kept (rows : List ℕ) (count t calls : ℕ) (held signals₀ tasks₀ trace₀ : List ℕ) (from : ℕ) (signals tasks trace : List ℕ) (at j : ℕ) : Type 0 where
   pub here : j < count → has calls j ≡ true
   pub turns : ℕ

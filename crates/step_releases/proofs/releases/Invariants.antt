@@ -19,6 +19,7 @@ use Rattle.step_releases.proofs.releases.Given as goal
 abbrev pub arrays : List ℕ → List ℕ → List ℕ → List ℕ → Arrays
 arrays signals tasks latched held = record { signals = signals; tasks = tasks; latched = latched; held = held }
 
+-- `turns` is how many rows had theirs: each adds so many words at most
 pub record Kept (rows : List ℕ) (count t calls : ℕ) (now : List Event) (signals tasks₀ latched₀ trace₀ : List ℕ) (from : ℕ) (tasks latched trace : List ℕ) (at j : ℕ) : Type 0 where
   pub here : j < count → has calls j ≡ true
   pub turns : ℕ

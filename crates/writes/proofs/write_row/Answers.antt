@@ -1,5 +1,3 @@
--- write p of a row
--- p of the writes are done, those from p on come to what all come to from the start
 use Prim.Native.Nat.{ℕ, ◌≤◌, ◌<◌, ◌+◌, ◌*◌, ◌-◌}
 use native.Mathlib.Nat.{sub-zero}
 use native.Mathlib.Omega.{arith}
