@@ -27,15 +27,15 @@ unfolding computing_examples
 marked-numbers = refl
 
 -- the lines of P4 and of P1, task by task
-own-lines : (i : ℕ) → own_lines i p4.lines ≡ own_lines i p1.lines
+own_lines-same : (i : ℕ) → own_lines i p4.lines ≡ own_lines i p1.lines
 unfolding sample_lines p1 p4 own_among own_lines
-own-lines zero = refl
-own-lines (suc zero) = refl
-own-lines (suc (suc i)) = rw (eqb-zero-suc (suc i), eqb-suc-suc 0 (suc i) ∙ eqb-zero-suc i)
+own_lines-same zero = refl
+own_lines-same (suc zero) = refl
+own_lines-same (suc (suc i)) = rw (eqb-zero-suc (suc i), eqb-suc-suc 0 (suc i) ∙ eqb-zero-suc i)
 
 -- P4: "each task's lines as in P1"
 pub p4-own : P4PrintsEachTasksLinesAsP1Does
-p4-own i = ap (own_lines i) marked-prints.1.1.1.0 ∙ own-lines i ∙ sym (ap (own_lines i) marked-prints.0)
+p4-own i = ap (own_lines i) marked-prints.1.1.1.0 ∙ own_lines-same i ∙ sym (ap (own_lines i) marked-prints.0)
 
 -- ---- the same of whatever meets the contracts of the entries
 -- an outcome that is a run prints the run's lines

@@ -41,9 +41,9 @@ module _ (plan_bytes : List ℕ) (good : (plan_verdict plan_bytes).number ≡ 0)
   k = task_at plan i
 
   -- ---- the fresh state: held outputs are "initial values of the signals it writes"
-  fresh_at_lem : state_at (fresh plan).tasks i ≡ fresh_task plan.signals k
+  fresh-own_task : state_at (fresh plan).tasks i ≡ fresh_task plan.signals k
   unfolding fresh
-  fresh_at_lem =
+  fresh-own_task =
       let most = few_tasks plan_bytes good in
       get_or-tab (λ j. get_or (map (fresh_task plan.signals) plan.tasks) j idle) nowhere 0 max_tasks i (omega arith)
       ∙ ap (λ (j : ℕ). get_or (map (fresh_task plan.signals) plan.tasks) j idle) (zero-add i) ∙ fresh-task_at plan i
@@ -72,7 +72,7 @@ module _ (plan_bytes : List ℕ) (good : (plan_verdict plan_bytes).number ≡ 0)
       let size = length-tab (λ j. get_or (map (fresh_task plan.signals) plan.tasks) j idle) 0 max_tasks in
       record {
         there = omega arith;
-        held = subst⁻¹ (λ y. Holds ps (total plan_bytes good i li ps only) y.held) fresh_at_lem fresh-held;
+        held = subst⁻¹ (λ y. Holds ps (total plan_bytes good i li ps only) y.held) fresh-own_task fresh-held;
         size = length-tab (λ j. get_or plan.signals j 0) 0 max_signals;
         sum =
             sum_same _ (λ p. value_at plan.signals (get_or k.outputs p 0)) ps

@@ -109,8 +109,8 @@ module _ (plan_bytes event_bytes : List ℕ) (s : State) (first second one : Cal
   zero_one = (called-zero plan_bytes event_bytes s one runs all).0
 
   -- there was time for it
-  in_time_lem : s.tick + one.asked ≤ max_time
-  in_time_lem = (may_run plan_bytes event_bytes s one.asked zero_one).ticks
+  enough_time : s.tick + one.asked ≤ max_time
+  enough_time = (may_run plan_bytes event_bytes s one.asked zero_one).ticks
 
   -- its records are those of the two, joined
   sizes : length (ticks step first.asked s).entries + length (ticks step second.asked (ticks step first.asked s).state).entries ≡ length (ticks step one.asked s).entries
@@ -123,7 +123,7 @@ module _ (plan_bytes event_bytes : List ℕ) (s : State) (first second one : Cal
   first_all =
       let room = (called-zero plan_bytes event_bytes s one runs all).1 in
       let size = sizes in
-      let soon = in_time_lem in
+      let soon = enough_time in
       ap (λ (v : Verdict). v.number)
       (runs₁.answer
       ∙ ap (λ (r : CallResult). r.verdict) (call-all plan_bytes event_bytes s first.asked (length first.lent) (verdict-zero plan_bytes event_bytes s one.asked first.asked zero_one (omega arith)) (omega arith)))
@@ -137,7 +137,7 @@ module _ (plan_bytes event_bytes : List ℕ) (s : State) (first second one : Cal
   second_all =
       let room = (called-zero plan_bytes event_bytes s one runs all).1 in
       let size = sizes in
-      let soon = in_time_lem in
+      let soon = enough_time in
       let late = ap (λ (x : State). x.tick) between ∙ ticks-tick plan_bytes event_bytes first.asked s in
       let fit = called-fits plan_bytes event_bytes (plan_good plan_bytes event_bytes s one.asked zero_one) s first runs₁ (fitting plan_bytes event_bytes s one.asked zero_one) in
       let same = ap (λ (x : State). length (ticks step second.asked x).entries) between in

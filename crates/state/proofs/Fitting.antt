@@ -32,13 +32,13 @@ use Rattle.state.proofs.Fresh.{fresh-sized, zero_sized}
 use Rattle.state.proofs.Statuses.{ready-active, ready-finished, ready-error, active-finished, rest_flight}
 
 -- ---- sizes
-sized-task_iff : (x : TaskState) → (sized_task x ≡ true) ↔ PortSizes x
-sized-task_iff x = ((λ e. let h = simp tests at e in record { latched = h.0; held = h.1 }), (λ h. simp tests (h.latched, h.held)))
+sized_task-iff : (x : TaskState) → (sized_task x ≡ true) ↔ PortSizes x
+sized_task-iff x = ((λ e. let h = simp tests at e in record { latched = h.0; held = h.1 }), (λ h. simp tests (h.latched, h.held)))
 
 pub sized-iff : (s : State) → (sized s ≡ true) ↔ StateSizes s
 unfolding sized
 sized-iff s =
-    let each = all-iff sized_task PortSizes sized-task_iff s.tasks in
+    let each = all-iff sized_task PortSizes sized_task-iff s.tasks in
     let signals = eqb-iff (length s.signals) max_signals in
     let tasks = eqb-iff (length s.tasks) max_tasks in (
       (λ e. let h = simp and_iff at e in record { signals = signals.0 h.0.0; tasks = tasks.0 h.0.1; ports = each.0 h.1 }),

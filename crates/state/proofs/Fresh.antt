@@ -28,21 +28,21 @@ use Rattle.state.proofs.Laws.{fresh-task_at}
 use Rattle.state.proofs.Zeros.{zeros_replicate, zeros_pad, all-tab}
 
 -- ---- sizes
-fresh-task_sized : (signals : List ℕ) (k : Task) → sized_task (fresh_task signals k) ≡ true
+fresh_task-sized : (signals : List ℕ) (k : Task) → sized_task (fresh_task signals k) ≡ true
 unfolding fresh_task
-fresh-task_sized signals k = rw length-tab
+fresh_task-sized signals k = rw length-tab
 
-fresh-at_sized : (plan : Plan) (i : ℕ) → sized_task (fresh_at plan i) ≡ true
-fresh-at_sized plan i = go (ltb i (length plan.tasks))
+fresh_at-sized : (plan : Plan) (i : ℕ) → sized_task (fresh_at plan i) ≡ true
+fresh_at-sized plan i = go (ltb i (length plan.tasks))
   where
     go : (t : Bool) → sized_task (cond t (fresh_task plan.signals (task_at plan i)) idle) ≡ true
-    go true = fresh-task_sized plan.signals (task_at plan i)
+    go true = fresh_task-sized plan.signals (task_at plan i)
     go false = refl
 
 pub fresh-sized : (plan : Plan) → sized (fresh plan) ≡ true
 unfolding sized fresh
 fresh-sized plan =
-    rw (length-tab, length-tab) ((all-tab sized_task _ 0 max_tasks).1 (λ i low high. ap sized_task (fresh-task_at plan i) ∙ fresh-at_sized plan i))
+    rw (length-tab, length-tab) ((all-tab sized_task _ 0 max_tasks).1 (λ i low high. ap sized_task (fresh-task_at plan i) ∙ fresh_at-sized plan i))
 
 pub zero_sized : sized zero_state ≡ true
 unfolding sized zero_state all
@@ -56,9 +56,9 @@ fresh-machine k h = simp (choices, tests) ((λ one. (h.supervisor one).initial),
     go other (inl one) = absurd (other one)
     go other (inr two) = (h.controller two).initial
 
-fresh-task_fits : (signals : List ℕ) (k : Task) → Kind k → task_fits 0 k (fresh_task signals k) ≡ true
+fresh_task-fits : (signals : List ℕ) (k : Task) → Kind k → task_fits 0 k (fresh_task signals k) ≡ true
 unfolding task_fits fresh_task
-fresh-task_fits signals k h =
+fresh_task-fits signals k h =
     let outputs = map (value_at signals) k.outputs in
     let size : length outputs ≡ length k.outputs = length-map k.outputs (value_at signals) in
     rw (zeros_replicate (length k.inputs) max_ports, zeros_pad (length k.outputs) max_ports outputs (omega arith), fresh-machine k h)
@@ -77,15 +77,15 @@ module _ (plan_bytes : List ℕ) (good : (plan_verdict plan_bytes).number ≡ 0)
   abbrev plan : Plan
   plan = plan_of plan_bytes
 
-  fresh-at_fits : (i : ℕ) → task_rule plan 0 i (fresh_at plan i) ≡ true
+  fresh_at-fits : (i : ℕ) → task_rule plan 0 i (fresh_at plan i) ≡ true
   unfolding task_rule
-  fresh-at_fits i = go (ltb i (length plan.tasks)) refl
+  fresh_at-fits i = go (ltb i (length plan.tasks)) refl
     where
       go : (t : Bool) → ltb i (length plan.tasks) ≡ t
           → cond t (task_fits 0 (task_at plan i) (cond t (fresh_task plan.signals (task_at plan i)) idle)) (is_idle (cond t (fresh_task plan.signals (task_at plan i)) idle)) ≡ true
       go true e =
           let less : i < task_count (words_of plan_bytes) = rw (tasks_length plan_bytes) at (ltb-true i (length plan.tasks) e) in
-          fresh-task_fits plan.signals (task_at plan i) (task_body_lem plan_bytes (accepted plan_bytes good) i less).kind
+          fresh_task-fits plan.signals (task_at plan i) (task_body_lem plan_bytes (accepted plan_bytes good) i less).kind
       go false e = idle-fits
 
   fresh-state_at : (i : ℕ) → i < max_tasks → state_at (fresh plan).tasks i ≡ fresh_at plan i
@@ -97,7 +97,7 @@ module _ (plan_bytes : List ℕ) (good : (plan_verdict plan_bytes).number ≡ 0)
   unfolding fits fresh
   clauses_hold events =
       let signals = zeros_pad (length plan.signals) max_signals plan.signals (omega arith) in
-      let tasks = (all-tab (λ i. task_rule plan 0 i (state_at (fresh plan).tasks i)) (λ i. i) 0 max_tasks).1 (λ i low high. ap (task_rule plan 0 i) (fresh-state_at i high) ∙ fresh-at_fits i) in
+      let tasks = (all-tab (λ i. task_rule plan 0 i (state_at (fresh plan).tasks i)) (λ i. i) 0 max_tasks).1 (λ i low high. ap (task_rule plan 0 i) (fresh-state_at i high) ∙ fresh_at-fits i) in
       rw (fresh-sized plan, none_passed events, signals, tasks)
 
 -- with whatever events

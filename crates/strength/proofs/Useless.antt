@@ -32,7 +32,7 @@ ninth = call one.plan one.events (ran one 8).state 1 room_needed
 
 -- the plan is accepted; one tick counts as one; signal 3, the first output of task 0, is unchanged after 1 tick and after 8, and
 -- written by the ninth; 12 ticks are run, with 7 records, and the value of the fourth of these stands in word 19 of the trace;
--- the zero_time reading has as many records, the first of them in its first tick
+-- the zero-time reading has as many records, the first of them in its first tick
 record Computed : Type 0 where
   accepted : (plan_verdict one.plan).number ≡ 0
   first_tick : (start_state one.plan).tick ≡ 0

@@ -103,8 +103,8 @@ TwelveTicksOfP1HaveSevenRecords = (lent left : List ℕ) (r : Outcome) → RunsF
 abbrev pub InventedCountsAreShutOut : Type 0
 InventedCountsAreShutOut = (t c : ℕ) (lent left : List ℕ) (r : Outcome) → Counts t c r → RunsFresh one 12 lent left r → (t ≡ 12) × (c ≡ 7)
 
--- ---- "Demand 3 is stated against the zero_time reading, so that a silent kernel can't satisfy it."
--- the zero_time reading of P1 over 12 ticks has 7 records
+-- ---- "Demand 3 is stated against the zero-time reading, so that a silent kernel can't satisfy it."
+-- the zero-time reading of P1 over 12 ticks has 7 records
 abbrev pub TheZeroTimeReadingOfP1HasSevenRecords : Type 0
 TheZeroTimeReadingOfP1HasSevenRecords = length (zero_run one.plan one.events 12).entries ≡ 7
 

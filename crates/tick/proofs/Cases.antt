@@ -28,9 +28,9 @@ active-is FINISHED e = cc
 active-is ERROR e = cc
 
 -- the other way round
-pub is_active_lem : (p : Status) → p ≡ ACTIVE → is_active p ≡ true
+pub is_active-true : (p : Status) → p ≡ ACTIVE → is_active p ≡ true
 unfolding is_active
-is_active_lem p e = rw e
+is_active-true p e = rw e
 
 -- ---- step 1
 -- a turn of step 1: nothing, a miss, or the writes

@@ -227,7 +227,7 @@ module _ (plan : Plan) (events : List Event) (s : State) where
       (λ j q e. visit-other plan (run_turn s.tick) j i mid (let g = q.1 in λ f. absurd (omega arith)) ∙ e)
       (released_beyond waits plan events s i l)
 
-  -- ---- the same of the zero_time reading, which has no step 3
+  -- ---- the same of the zero-time reading, which has no step 3
   pub zero_length : length (zero_tick plan events s).state.tasks ≡ length s.tasks
   unfolding zero_tick
   zero_length = released_length finish plan events s

@@ -83,11 +83,11 @@ written (y ∷ ys) (v ∷ vs) g w few below (suc p) l =
 
 -- ---- writes to different signals commute
 -- one write, and the writes of outputs that it is none of
-set_one_lem : (x v : ℕ) (outs held s : List ℕ) → Every (λ y. x ≢ y) outs → write_all (writes_of outs held) (set s x v) ≡ set (write_all (writes_of outs held) s) x v
+write_all-set : (x v : ℕ) (outs held s : List ℕ) → Every (λ y. x ≢ y) outs → write_all (writes_of outs held) (set s x v) ≡ set (write_all (writes_of outs held) s) x v
 unfolding write_all writes_of
-set_one_lem x v [] held s d = refl
-set_one_lem x v (y ∷ ys) [] s d = refl
-set_one_lem x v (y ∷ ys) (h ∷ hs) s d = ap (write_all (writes_of ys hs)) (set_comm s x y v h d.0) ∙ set_one_lem x v ys hs (set s y h) d.1
+write_all-set x v [] held s d = refl
+write_all-set x v (y ∷ ys) [] s d = refl
+write_all-set x v (y ∷ ys) (h ∷ hs) s d = ap (write_all (writes_of ys hs)) (set_comm s x y v h d.0) ∙ write_all-set x v ys hs (set s y h) d.1
 
 -- the writes of two tasks
 pub writes_commute : (xs hs ys gs s : List ℕ) → Disjoint xs ys
@@ -95,4 +95,4 @@ pub writes_commute : (xs hs ys gs s : List ℕ) → Disjoint xs ys
 unfolding write_all writes_of
 writes_commute [] hs ys gs s d = refl
 writes_commute (x ∷ xs) [] ys gs s d = refl
-writes_commute (x ∷ xs) (h ∷ hs) ys gs s d = ap (write_all (writes_of xs hs)) (sym (set_one_lem x h ys gs s d.0)) ∙ writes_commute xs hs ys gs (set s x h) d.1
+writes_commute (x ∷ xs) (h ∷ hs) ys gs s d = ap (write_all (writes_of xs hs)) (sym (write_all-set x h ys gs s d.0)) ∙ writes_commute xs hs ys gs (set s x h) d.1

@@ -1,4 +1,4 @@
--- Document 01, 'One tick' and the zero_time reading.
+-- Document 01, 'One tick' and the zero-time reading.
 use Rattle.std.specs.Prelude.{ℕ, ◌+◌, Bool, cond, List, [], ◌∷◌, ◌++◌, set, ltb, eqb}
 use Rattle.std.proofs.Math.Option.{Option, none, some}
 use Rattle.plan.specs.File.{Task, Plan, task_at}
@@ -97,7 +97,7 @@ ends events t m =
 unfoldable pub tick : Plan → List Event → State → Ticked
 tick plan events s = ends events s.tick (runs plan s.tick (after_releases waits plan events s))
 
--- "The zero_time reading .. has steps 0, 1 and 2 with one change and no step 3: a released task's body runs at once on its
+-- "The zero-time reading .. has steps 0, 1 and 2 with one change and no step 3: a released task's body runs at once on its
 -- latched inputs and held outputs, and the task is FINISHED until r + D."
 unfoldable pub zero_tick : Plan → List Event → State → Ticked
 zero_tick plan events s = ends events s.tick (after_releases finish plan events s)

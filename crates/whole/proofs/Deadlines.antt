@@ -23,7 +23,7 @@ use Rattle.tick.specs.Turns.{Write, becomes, writes_of, write_out, fail, deadlin
 use Rattle.tick.specs.Tick.{write_all, visit, each}
 use Rattle.steps.specs.Flat.{each_row, status_of, task_of_row, reset, row_writes, write_entries, write_row, fail_row, ends_now, lapse}
 use Rattle.whole.specs.Whole.{ports_in, task_in, whole, moment_of, RowOf, Rows}
-use Rattle.whole.proofs.Laws.{get_or-all, read, change, after, landed, keeps, IsRow, in_order_lem, in_order_leave}
+use Rattle.whole.proofs.Laws.{get_or-all, read, change, after, landed, keeps, IsRow, turns_in_order, turns_in_order_leave}
 use Rattle.whole.proofs.Fields.{three, three_stored, three_other, task_same}
 
 -- ---- status, remaining ticks and release instant of task i are changed
@@ -150,7 +150,7 @@ module _ (t : ℕ) (plan : Plan) (rows : List ℕ) (n : ℕ) (said : Rows plan r
   pub deadlines-same : (a : Arrays) (es : List Entry) → Sized a
       → each plan (deadline_turn t) (order plan) (moment_of a es) ≡ landed es (each_row (lapse t rows) n 0 a)
   deadlines-same a es sized =
-      in_order_lem plan rows n said (lapse t rows) (deadline_turn t) Sized one (λ j i b row z. sized-lapse t rows j b z) a es sized
+      turns_in_order plan rows n said (lapse t rows) (deadline_turn t) Sized one (λ j i b row z. sized-lapse t rows j b z) a es sized
 
   pub deadlines-sized : (a : Arrays) → Sized a → Sized (each_row (lapse t rows) n 0 a).arrays
-  deadlines-sized a sized = in_order_leave plan rows n said (lapse t rows) (deadline_turn t) Sized one (λ j i b row z. sized-lapse t rows j b z) a sized
+  deadlines-sized a sized = turns_in_order_leave plan rows n said (lapse t rows) (deadline_turn t) Sized one (λ j i b row z. sized-lapse t rows j b z) a sized

@@ -111,17 +111,17 @@ IsRow plan rows j i = (task_of_row rows j ≡ i) × RowOf rows j (task_at plan (
 module _ (plan : Plan) (rows : List ℕ) (n : ℕ) (said : Rows plan rows n) (act : ℕ → Arrays → Step) (turn : ℕ → Task → TaskState → Turn) (Good : Arrays → Type 0)
     (one : (j i : ℕ) (a : Arrays) (es : List Entry) → IsRow plan rows j i → Good a → visit plan turn i (moment_of a es) ≡ landed es (act j a))
     (stays : (j i : ℕ) (a : Arrays) → IsRow plan rows j i → Good a → Good (act j a).arrays) where
-  each_row_lem : (m : ℕ) → m < length (order plan) → IsRow plan rows (0 + m) (get_or (order plan) m 0)
-  each_row_lem m h =
+  is_row_at : (m : ℕ) → m < length (order plan) → IsRow plan rows (0 + m) (get_or (order plan) m 0)
+  is_row_at m h =
       let count = said.count in
       rw (zero-add m) (said.number m (omega arith), said.row m (omega arith))
 
-  pub in_order_lem : (a : Arrays) (es : List Entry) → Good a → each plan turn (order plan) (moment_of a es) ≡ landed es (each_row act n 0 a)
-  in_order_lem a es good =
-      turns plan act turn (IsRow plan rows) Good one stays (order plan) 0 a es each_row_lem good
+  pub turns_in_order : (a : Arrays) (es : List Entry) → Good a → each plan turn (order plan) (moment_of a es) ≡ landed es (each_row act n 0 a)
+  turns_in_order a es good =
+      turns plan act turn (IsRow plan rows) Good one stays (order plan) 0 a es is_row_at good
       ∙ ap (λ (m : ℕ). landed es (each_row act m 0 a)) (sym said.count)
 
-  pub in_order_leave : (a : Arrays) → Good a → Good (each_row act n 0 a).arrays
-  in_order_leave a good =
+  pub turns_in_order_leave : (a : Arrays) → Good a → Good (each_row act n 0 a).arrays
+  turns_in_order_leave a good =
       subst (λ m. Good (each_row act m 0 a).arrays) (sym said.count)
-      (turns_leave plan act turn (IsRow plan rows) Good one stays (order plan) 0 a each_row_lem good)
+      (turns_leave plan act turn (IsRow plan rows) Good one stays (order plan) 0 a is_row_at good)

@@ -64,8 +64,8 @@ module _ (rows : List ℕ) (j : ℕ) (signals : List ℕ) where
 
 -- ---- what a row latches is what its task latches: "latch all inputs"
 module _ (rows : List ℕ) (j : ℕ) (k : Task) (row : RowOf rows j k) (signals : List ℕ) where
-  latched_at_lem : (p : ℕ) → p < max_ports → latched_at rows j signals p ≡ get_or (map (value_at signals) k.inputs) p 0
-  latched_at_lem p small = go (ltb p (row_field rows j 7)) refl
+  latched_at-same : (p : ℕ) → p < max_ports → latched_at rows j signals p ≡ get_or (map (value_at signals) k.inputs) p 0
+  latched_at-same p small = go (ltb p (row_field rows j 7)) refl
     where
       go : (b : Bool) → ltb p (row_field rows j 7) ≡ b
           → cond b (get_or signals (row_field rows j (16 + p)) 0) 0 ≡ get_or (map (value_at signals) k.inputs) p 0
@@ -81,7 +81,7 @@ module _ (rows : List ℕ) (j : ℕ) (k : Task) (row : RowOf rows j k) (signals 
   pub latches : tab (latched_at rows j signals) 0 max_ports ≡ pad max_ports 0 (map (value_at signals) k.inputs)
   latches =
       tab-within (latched_at rows j signals) (λ p. get_or (map (value_at signals) k.inputs) p 0) 0 max_ports
-      (λ p low high. latched_at_lem p (omega arith))
+      (λ p low high. latched_at-same p (omega arith))
 
 -- ---- eight ports in one piece: what steps/specs/Flat.antt's ports_of and with_ports come to for a task that has its place
 sets_other : (l vs : List ℕ) (i m : ℕ) → ((q : ℕ) → q < length vs → m ≢ i + q) → get_or (sets l i vs) m 0 ≡ get_or l m 0

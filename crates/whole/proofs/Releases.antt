@@ -20,7 +20,7 @@ use Rattle.tick.specs.Turns.{requests, release, Call, released, overrun, ignored
 use Rattle.tick.specs.Tick.{write_all, visit, each}
 use Rattle.steps.specs.Flat.{each_row, status_of, task_of_row, latch, is_due, call_of_row, answer_row, grant}
 use Rattle.whole.specs.Whole.{task_in, whole, moment_of, RowOf, Rows}
-use Rattle.whole.proofs.Laws.{read, change, after, landed, keeps, IsRow, in_order_lem, in_order_leave}
+use Rattle.whole.proofs.Laws.{read, change, after, landed, keeps, IsRow, turns_in_order, turns_in_order_leave}
 use Rattle.whole.proofs.Fields.{task_same}
 use Rattle.whole.proofs.Deadlines.{timed, timed-stored, timed-other, sized-fail, fails}
 use Rattle.whole.proofs.Ports.{length-latch, latched_other, latched_same, latches}
@@ -107,10 +107,10 @@ module _ (t : ℕ) (now : List Event) (plan : Plan) (rows : List ℕ) (n : ℕ) 
 
   each-grant : (a : Arrays) (es : List Entry) → Kept signals a
       → each plan (release_turn waits t signals now) (order plan) (moment_of a es) ≡ landed es (each_row (grant t rows now) n 0 a)
-  each-grant a es kept = in_order_lem plan rows n said (grant t rows now) (release_turn waits t signals now) (Kept signals) one stay a es kept
+  each-grant a es kept = turns_in_order plan rows n said (grant t rows now) (release_turn waits t signals now) (Kept signals) one stay a es kept
 
   all-kept : (a : Arrays) → Kept signals a → Kept signals (each_row (grant t rows now) n 0 a).arrays
-  all-kept a kept = in_order_leave plan rows n said (grant t rows now) (release_turn waits t signals now) (Kept signals) one stay a kept
+  all-kept a kept = turns_in_order_leave plan rows n said (grant t rows now) (release_turn waits t signals now) (Kept signals) one stay a kept
 
 module _ (t : ℕ) (now : List Event) (plan : Plan) (rows : List ℕ) (n : ℕ) (said : Rows plan rows n) (a : Arrays) (sized : Sized a) where
   -- "2. In order of priority, releases."

@@ -17,8 +17,8 @@ module _ (bytes : List ℕ) (good : (plan_verdict bytes).number ≡ 0) where
   abbrev rows : List ℕ
   rows = (schedule_of bytes).rows
 
-  row_of : (j : ℕ) → j < task_count (words_of bytes) → RowOf rows j (task_at (plan_of bytes) (task_of_row rows j))
-  row_of j h =
+  row_matches : (j : ℕ) → j < task_count (words_of bytes) → RowOf rows j (task_at (plan_of bytes) (task_of_row rows j))
+  row_matches j h =
       let says = schedule_says bytes good j h in
       let few = tasks_few bytes good in
       let task = place_task bytes good j h in
@@ -49,5 +49,5 @@ module _ (bytes : List ℕ) (good : (plan_verdict bytes).number ≡ 0) where
             let task = place_task bytes good j (omega arith) in
             let all = tasks_length bytes in
             omega arith;
-        row = λ j h. row_of j (omega arith);
+        row = λ j h. row_matches j (omega arith);
       }

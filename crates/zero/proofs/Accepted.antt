@@ -1,5 +1,5 @@
 -- What an accepted plan without deadline 0 gives: its order of priority is its task numbers in another order, and its ticks
--- from the fresh state are those of the zero_time reading as long as nothing is missed.
+-- from the fresh state are those of the zero-time reading as long as nothing is missed.
 use Prim.Native.Nat.{ℕ, ◌≤◌, ◌<◌}
 use native.Mathlib.Nat.{zero-add}
 use mathlib.Core.Path.{◌≡◌, sym, ap, ◌∙◌}
@@ -23,7 +23,7 @@ module _ (plan_bytes : List ℕ) (good : (plan_verdict plan_bytes).number ≡ 0)
   plan = plan_of plan_bytes
 
   module _ (event_bytes : List ℕ) (deadlines : WithoutDeadline0 plan) (n : ℕ) (no_miss : NoMiss (kernel_run plan_bytes event_bytes n).entries) where
-    -- n ticks of the zero_time reading are n ticks of the kernel with every ACTIVE body run
+    -- n ticks of the zero-time reading are n ticks of the kernel with every ACTIVE body run
     reads : zero_run plan_bytes event_bytes n ≡ ahead_ticked plan (kernel_run plan_bytes event_bytes n)
     reads =
         let all = each-task (λ k. k.deadline ≢ 0) plan deadlines in

@@ -1,4 +1,4 @@
--- One plan: the kernel's ticks are those of the zero_time reading, as long as no deadline is missed. The zero_time state is the
+-- One plan: the kernel's ticks are those of the zero-time reading, as long as no deadline is missed. The zero-time state is the
 -- kernel's state with every ACTIVE task's body already run.
 use Prim.Native.Nat.{ℕ, zero, suc, ◌+◌, ◌-◌}
 use mathlib.Core.Path.{◌≡◌, refl, sym, ◌∙◌, ap, subst⁻¹}
@@ -156,7 +156,7 @@ release-ahead t signals now i k x d = go (release-is waits t signals now i k x)
     go (stays u) =
         release-stays finish t signals now i k (ahead k x) (record { ready = λ e. u.ready (ahead_ready k x e); active = λ e p z. absurd (d z) })
 
--- step 3: nothing that the zero_time reading sees
+-- step 3: nothing that the zero-time reading sees
 run_ahead : (t i : ℕ) (k : Task) (x : TaskState) → is_active x.status ≡ true → k.deadline ≢ 0 → ahead_turn k (run_turn t i k x) ≡ quiet (ahead k x)
 unfolding ahead_of
 run_ahead t i k x a d = go (run_is t i k x)
@@ -176,7 +176,7 @@ visit-ahead : (plan : Plan) (act act' : Act) (i : ℕ) (m : Moment)
     → visit plan act' i (ahead_moment plan m) ≡ ahead_moment plan (visit plan act i m)
 visit-ahead plan act act' i m h = rw (get_ahead, h, set_ahead)
 
--- a step: act in the kernel, act' in the zero_time reading; P is what the tasks in turn are known to be, E what their records are
+-- a step: act in the kernel, act' in the zero-time reading; P is what the tasks in turn are known to be, E what their records are
 module _ (plan : Plan) (act act' : Act) (P : ℕ → Type 0) (E : Entry → Type 0)
     (agree : (i : ℕ) (x : TaskState) → P i → Every E (act i (task_at plan i) x).entries
     → act' i (task_at plan i) (ahead (task_at plan i) x) ≡ ahead_turn (task_at plan i) (act i (task_at plan i) x)) where
@@ -197,7 +197,7 @@ visit-quiet : (plan : Plan) (i : ℕ) (m : Moment) → visit plan (λ _ _ x. qui
 unfolding write_all
 visit-quiet plan i m = simp (set-get_or, append-nil)
 
--- step 3, as the zero_time reading sees it
+-- step 3, as the zero-time reading sees it
 run_one : (plan : Plan) (t : ℕ) (o : Option ℕ) (m : Moment) → If (λ i. (is_active (state_at m.tasks i).status ≡ true) × HasDeadline plan i) o
     → ahead_moment plan (visit_if plan (run_turn t) o m) ≡ ahead_moment plan m
 unfolding visit_if
@@ -239,7 +239,7 @@ module _ (plan : Plan) (events : List Event) where
         (λ i x e u. release-ahead t m.signals (events_at t events) i (task_at plan i) x e) (order plan) m d
         (every_all (λ e. Unit {0}) (releases waits plan events t m).entries (λ e. tt))
 
-    -- a tick of the kernel whose step 1 has no miss, seen with every body run, is a tick of the zero_time reading
+    -- a tick of the kernel whose step 1 has no miss, seen with every body run, is a tick of the zero-time reading
     pub tick-ahead : (s : State) → NoMiss (deadlines plan events s).entries → zero_tick plan events (ahead_state plan s) ≡ ahead_ticked plan (tick plan events s)
     unfolding tick zero_tick
     tick-ahead s h =
@@ -283,7 +283,7 @@ fresh-ahead plan =
     ap (λ (xs : List TaskState). record { tick = 0; place = 0; signals = (fresh plan).signals; tasks = xs })
     (tab-ahead _ (get_or-ready plan.signals plan.tasks) plan.tasks 0 max_tasks)
 
--- n ticks of the kernel from the fresh state, with no miss, are n ticks of the zero_time reading
+-- n ticks of the kernel from the fresh state, with no miss, are n ticks of the zero-time reading
 pub zero_time : (plan : Plan) (events : List Event) (n : ℕ) → Every (HasDeadline plan) (numbers plan) → Every (HasDeadline plan) (order plan)
     → NoMiss (ticks (tick plan events) n (fresh plan)).entries
     → ticks (zero_tick plan events) n (fresh plan) ≡ ahead_ticked plan (ticks (tick plan events) n (fresh plan))

@@ -1,4 +1,4 @@
--- "Nothing misses in it": no record of the zero_time reading is a miss, whatever the plan and the events.
+-- "Nothing misses in it": no record of the zero-time reading is a miss, whatever the plan and the events.
 use Prim.Native.Nat.{ℕ, zero, suc, ◌+◌}
 use mathlib.Core.Path.{◌≡◌, refl, sym, ap, ◌∙◌}
 use mathlib.Core.Logic.{◌≢◌}
@@ -82,7 +82,7 @@ each-calm plan act turn (i ∷ is) m h =
 
 -- ---- n ticks
 module _ (plan : Plan) (events : List Event) where
-  -- one tick of the zero_time reading
+  -- one tick of the zero-time reading
   tick_calm : (s : State) → Every Calm s.tasks → Every Calm (zero_tick plan events s).state.tasks × NoMiss (zero_tick plan events s).entries
   unfolding zero_tick
   tick_calm s h =

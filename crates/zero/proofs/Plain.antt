@@ -1,4 +1,4 @@
--- The zero_time tick takes the tasks in order of priority; in the order of their numbers it shows the same.
+-- The zero-time tick takes the tasks in order of priority; in the order of their numbers it shows the same.
 use Prim.Native.Nat.{ℕ, zero, suc}
 use mathlib.Core.Path.{◌≡◌, refl, sym, ◌∙◌, ap, ap₂, subst⁻¹}
 use mathlib.Core.Logic.{◌≢◌, ◌⊎◌, inl, inr}
@@ -21,7 +21,7 @@ use Rattle.tick.proofs.Writes.{writes_of_nil, writes_commute}
 use Rattle.zero.specs.Zero.{ticks}
 use Rattle.zero.proofs.Order.{Alike, alike_trans, each-alike, perm_alike}
 
--- ---- the zero_time tick, with the tasks in the order of their numbers
+-- ---- the zero-time tick, with the tasks in the order of their numbers
 -- steps 0 and 1
 unfoldable pub plain_deadlines : Plan → List Event → State → Moment
 plain_deadlines plan events s =

@@ -1,4 +1,4 @@
--- Two plans that differ only in execution times and priorities: their zero_time readings leave the same signals and task
+-- Two plans that differ only in execution times and priorities: their zero-time readings leave the same signals and task
 -- states, and each task's same records.
 use Prim.Native.Nat.{ℕ, zero, suc, ◌+◌}
 use mathlib.Core.Path.{◌≡◌, refl, sym, ◌∙◌, ap, ap₂}
@@ -115,7 +115,7 @@ module _ (plan other : Plan) (same : DifferOnlyInExecutionAndPriority plan other
       at i = rw (same.signals, same.count, fresh-same (task_at plan i) (task_at other i) (tasks_same i) other.signals)
 
 -- ---- two plans that differ only in execution times and priorities, under the same events: after any number of ticks of their
--- zero_time readings, the same state and each task's same records
+-- zero-time readings, the same state and each task's same records
 pub zero_same : (plan other : Plan) → DifferOnlyInExecutionAndPriority plan other → Perm (order plan) (numbers plan) → Perm (order other) (numbers other)
     → Pairwise ◌≢◌ (all_outputs plan.tasks) → Pairwise ◌≢◌ (all_outputs other.tasks)
     → (events : List Event) (n : ℕ) → Shows (ticks (zero_tick plan events) n (fresh plan)) (ticks (zero_tick other events) n (fresh other))
@@ -142,7 +142,7 @@ module _ (plan other : Plan) (same : DifferOnlyInExecutionAndPriority plan other
   unfolding order
   order_same = rw same.count (in_order_same 1 max_priority (numbers other))
 
-  -- one tick of the zero_time reading
+  -- one tick of the zero-time reading
   tick-same : (events : List Event) (s : State) → zero_tick plan events s ≡ zero_tick other events s
   unfolding zero_tick
   tick-same events s =

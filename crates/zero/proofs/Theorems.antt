@@ -109,20 +109,20 @@ many_calls plan_bytes event_bytes started calls service deadlines no_miss =
 module _ (plan_bytes event_bytes : List ℕ) (started : Started) (calls : List Called) (service : Service plan_bytes event_bytes started calls)
     (deadlines : WithoutDeadline0 (plan_of plan_bytes)) (k : ℕ) (l : k ≤ ticks_of calls) (no_miss : NoMiss (before k (all_records calls))) where
   -- its records are those of k ticks of the kernel
-  first_records_lem : before k (all_records calls) ≡ (kernel_run plan_bytes event_bytes k).entries
-  first_records_lem = ap (before k) (shown plan_bytes event_bytes started calls service) ∙ first_from_fresh plan_bytes event_bytes k (ticks_of calls) l
+  kernel_records : before k (all_records calls) ≡ (kernel_run plan_bytes event_bytes k).entries
+  kernel_records = ap (before k) (shown plan_bytes event_bytes started calls service) ∙ first_from_fresh plan_bytes event_bytes k (ticks_of calls) l
 
   -- which miss nothing
   missed : NoMiss (kernel_run plan_bytes event_bytes k).entries
-  missed = subst NoMiss first_records_lem no_miss
+  missed = subst NoMiss kernel_records no_miss
 
-  -- so the kernel's signals are those of the zero_time reading
+  -- so the kernel's signals are those of the zero-time reading
   pub read_signals : (kernel_run plan_bytes event_bytes k).state.signals ≡ (zero_run plan_bytes event_bytes k).state.signals
   read_signals = run_signals plan_bytes (good plan_bytes event_bytes started calls service) event_bytes deadlines k missed
 
   -- and so are the records
   read_records : before k (all_records calls) ≡ (zero_run plan_bytes event_bytes k).entries
-  read_records = first_records_lem ∙ run_entries plan_bytes (good plan_bytes event_bytes started calls service) event_bytes deadlines k missed
+  read_records = kernel_records ∙ run_entries plan_bytes (good plan_bytes event_bytes started calls service) event_bytes deadlines k missed
 
 pub before-a_miss : BeforeAMissItIsTheZeroTimeReading
 before-a_miss plan_bytes event_bytes started calls service deadlines k l no_miss =
@@ -134,7 +134,7 @@ before-a_miss plan_bytes event_bytes started calls service deadlines k l no_miss
     }
 
 -- ---- the second sentence
--- the zero_time readings of the two plans show the same
+-- the zero-time readings of the two plans show the same
 zero_shows : (plan_bytes other_bytes event_bytes : List ℕ) → (plan_verdict plan_bytes).number ≡ 0 → (plan_verdict other_bytes).number ≡ 0
     → DifferOnlyInExecutionAndPriority (plan_of plan_bytes) (plan_of other_bytes) → (n : ℕ) → Shows (zero_run plan_bytes event_bytes n) (zero_run other_bytes event_bytes n)
 zero_shows plan_bytes other_bytes event_bytes g h same n =

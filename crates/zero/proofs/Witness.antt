@@ -65,7 +65,7 @@ fine : (entries : List Entry) → is_fine entries ≡ true → NoMiss entries
 fine entries e = (all-iff (λ x. not (eqb x.kind miss_kind)) (λ x. x.kind ≢ miss_kind) (λ x. not_iff x.kind miss_kind) entries).0 e
 
 -- what a plan with events comes to in these calls: the ticks that they run, whether it has no deadline 0, whether no miss, how many
--- records the kernel leaves and how many the zero_time reading has
+-- records the kernel leaves and how many the zero-time reading has
 record Expected : Type 0 where
   ticks : ℕ
   deadlines : Bool
@@ -212,7 +212,7 @@ p1-p3 =
     (with_deadlines p1 c.has-deadlines) (with_deadlines p3 d.has-deadlines) p1-p3_alike 8 (omega arith) (omega arith) (fine _ c.early) (fine _ d.early)
 
 -- ---- and none can be dropped
--- the records of the kernel and of the zero_time reading, counted
+-- the records of the kernel and of the zero-time reading, counted
 apart : (bytes events ns : List ℕ) (x : Expected) → Computed bytes events ns x → x.kernel ≢ x.zero_time
     → ServiceReads bytes events (started bytes) (calls bytes events ns) → ⊥
 apart bytes events ns x c differ h =

@@ -1,4 +1,4 @@
--- Condition 3, what is proved of it: "Demand 3 is stated against the zero_time reading". Each statement speaks of what the
+-- Condition 3, what is proved of it: "Demand 3 is stated against the zero-time reading". Each statement speaks of what the
 -- entries return; proofs/Theorems.antt proves them, proofs/Witness.antt has an instance of each and a case for each premise.
 use Rattle.std.specs.Prelude.{ℕ, ◌≤◌, ◌≡◌, List}
 use Rattle.answers.specs.Answers.{said}
@@ -14,7 +14,7 @@ use Rattle.zero.specs.Zero.{WithoutDeadline0, NoMiss, ticks, zero_run, DifferOnl
 
 -- ---- the first sentence
 -- A plan that the fresh start accepts, without deadline 0, and one call from the fresh state, whatever it asks and answers: if
--- the records that it left have no miss, it gave what the zero_time reading gives in as many ticks, to the last word of the trace
+-- the records that it left have no miss, it gave what the zero-time reading gives in as many ticks, to the last word of the trace
 abbrev pub OneCallIsTheZeroTimeReading : Type 0
 OneCallIsTheZeroTimeReading =
     (plan_bytes event_bytes : List ℕ) (started : Started) → Starts plan_bytes started → (said started.answer).number ≡ 0
@@ -22,7 +22,7 @@ OneCallIsTheZeroTimeReading =
     → (asked : ℕ) (lent left : List ℕ) (r : Outcome) → Runs plan_bytes event_bytes started.state asked lent left r
     → NoMiss (records_in left r.records) → CallReads plan_bytes event_bytes lent left r
 
--- So also where the call is asked for any k of these ticks instead: it runs k, and its signals are those of the zero_time reading
+-- So also where the call is asked for any k of these ticks instead: it runs k, and its signals are those of the zero-time reading
 abbrev pub AskedForFewerTicksItReadsThem : Type 0
 AskedForFewerTicksItReadsThem =
     (plan_bytes event_bytes : List ℕ) (started : Started) → Starts plan_bytes started → (said started.answer).number ≡ 0
@@ -66,12 +66,12 @@ BeforeAMissTheyMoveNoWrite =
     → (k : ℕ) → k ≤ ticks_of calls → k ≤ ticks_of other-calls → NoMiss (before k (all_records calls)) → NoMiss (before k (all_records other-calls))
     → ShowSameBefore k plan_bytes other_bytes event_bytes (all_records calls) (all_records other-calls)
 
--- ---- what the zero_time reading itself is
+-- ---- what the zero-time reading itself is
 -- "Nothing misses in it", whatever the plan and the events
 abbrev pub NothingMissesInIt : Type 0
 NothingMissesInIt = (plan_bytes event_bytes : List ℕ) (n : ℕ) → NoMiss (zero_run plan_bytes event_bytes n).entries
 
--- "execution times are not read": plans that differ in nothing else have one zero_time reading
+-- "execution times are not read": plans that differ in nothing else have one zero-time reading
 abbrev pub ExecutionTimesAreNotRead : Type 0
 ExecutionTimesAreNotRead =
     (plan other : Plan) → DifferOnlyInExecutionAndPriority plan other → ((i : ℕ) → (task_at plan i).priority ≡ (task_at other i).priority)

@@ -1,4 +1,4 @@
--- Document 01, the zero_time reading: what a run is held against, and what the entries give over one call or many.
+-- Document 01, the zero-time reading: what a run is held against, and what the entries give over one call or many.
 use Rattle.std.specs.Prelude.{ℕ, zero, suc, ◌+◌, ◌<◌, ◌≤◌, ◌≡◌, ◌≢◌, List, [], ◌∷◌, ◌++◌, length}
 use Rattle.lists.specs.Lists.{Every}
 use Rattle.answers.specs.Answers.{said}
@@ -33,7 +33,7 @@ ticks step (suc n) s =
 abbrev pub kernel_run : List ℕ → List ℕ → ℕ → Ticked
 kernel_run plan_bytes event_bytes n = ticks (tick (plan_of plan_bytes) (events_of event_bytes)) n (fresh (plan_of plan_bytes))
 
--- n ticks of "the zero_time reading" from the fresh state
+-- n ticks of "the zero-time reading" from the fresh state
 abbrev pub zero_run : List ℕ → List ℕ → ℕ → Ticked
 zero_run plan_bytes event_bytes n = ticks (zero_tick (plan_of plan_bytes) (events_of event_bytes)) n (fresh (plan_of plan_bytes))
 
@@ -101,14 +101,14 @@ SignalsAfter plan_bytes event_bytes k signals =
     (started : Started) (calls : List Called) → Service plan_bytes event_bytes started calls → ticks_of calls ≡ k
     → (last_state started.state calls).signals ≡ signals
 
--- what one call gave from the fresh state is what the zero_time reading gives in as many ticks
+-- what one call gave from the fresh state is what the zero-time reading gives in as many ticks
 pub record CallReads (plan_bytes event_bytes lent left : List ℕ) (r : Outcome) : Type 0 where
   -- all its records, in their order; so also each task's own
   pub records : records_in left r.records ≡ (zero_run plan_bytes event_bytes r.ticks).entries
   pub own-records : (i : ℕ) → own i (records_in left r.records) ≡ own i (zero_run plan_bytes event_bytes r.ticks).entries
   -- the trace to its last word: the records "from the trace's start", and "words beyond the records stay"
   pub trace : left ≡ trace_after (zero_run plan_bytes event_bytes r.ticks).entries lent
-  -- the state that came back is that after as many ticks of the kernel, and its signals are those of the zero_time reading
+  -- the state that came back is that after as many ticks of the kernel, and its signals are those of the zero-time reading
   pub state : r.state ≡ (kernel_run plan_bytes event_bytes r.ticks).state
   pub last : r.state.signals ≡ (zero_run plan_bytes event_bytes r.ticks).state.signals
   -- and so are the signals after every tick before
@@ -121,7 +121,7 @@ pub record ServiceReads (plan_bytes event_bytes : List ℕ) (started : Started) 
   pub own-records : (i : ℕ) → own i (all_records calls) ≡ own i (zero_run plan_bytes event_bytes (ticks_of calls)).entries
   -- each call's records stand "from the trace's start", and "words beyond the records stay"
   pub traces : Every (λ c. c.left ≡ trace_after (records_of c) c.lent) calls
-  -- the state after the last call is that after as many ticks of the kernel, and its signals are those of the zero_time reading
+  -- the state after the last call is that after as many ticks of the kernel, and its signals are those of the zero-time reading
   pub state : last_state started.state calls ≡ (kernel_run plan_bytes event_bytes (ticks_of calls)).state
   pub last : (last_state started.state calls).signals ≡ (zero_run plan_bytes event_bytes (ticks_of calls)).state.signals
   -- and so are the signals after every tick before
