@@ -1,5 +1,5 @@
 -- Document 01, 'Numbers returned'.
-use Rattle.std.specs.Prelude.{ℕ, ◌<◌, Bool, true, false, cond, ◌&&◌, List, [], ◌∷◌, eqb}
+use Rattle.std.specs.Prelude.{ℕ, Bool, true, cond, ◌&&◌, List, [], ◌∷◌, eqb}
 use Rattle.answers.specs.declared.Answer.{Answer}
 use Rattle.answers.specs.declared.Answer.TheVariants.{Accepted, PlanSize, PlanHead, PlanContents, TaskShape, TaskTiming, TaskBody, SamePriority, SameOutput, EventSize, EventInstant, EventContent, StateUnfit, TooManyTicks, TraceFull, NoSuchTask}
 

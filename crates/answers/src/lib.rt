@@ -1,4 +1,6 @@
 // Document 01, 'Numbers returned': what a call can answer.
+#![tactic(auto)]
+
 ghost use Rattle.std.specs.Prelude.{◌≡◌, not, eqb};
 ghost use Rattle.answers.specs.Answers.{said};
 

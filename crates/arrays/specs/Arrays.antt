@@ -1,5 +1,5 @@
 -- The state taken apart: the arrays of numbers that the steps of a tick are lent.
-use Rattle.std.specs.Prelude.{ℕ, zero, suc, ◌+◌, ◌*◌, ◌≡◌, List, [], length, get_or, set}
+use Rattle.std.specs.Prelude.{ℕ, ◌+◌, ◌*◌, ◌≡◌, List, [], length, get_or, set}
 use Rattle.limits.specs.Limits.{max_signals, max_tasks, max_ports}
 use Rattle.trace.specs.Trace.{over}
 use Rattle.trace.specs.declared.Entry.{Entry}

@@ -1,5 +1,7 @@
 // The state as the steps of a tick hold it: arrays of numbers, lent from step to step, so that nothing of the state's size is
 // copied in a tick. Reads past the end give 0 and stores past it do nothing, so no step asks what the plan is like.
+#![tactic(auto)]
+
 ghost use Rattle.std.specs.Prelude.{◌≡◌, ◌+◌, ◌*◌, get_or, set};
 ghost use Rattle.arrays.specs.Arrays.{field, row_field};
 

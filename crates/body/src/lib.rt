@@ -1,4 +1,6 @@
 // Document 01, 'The body': what a task's body leaves of its machine state and held outputs.
+#![tactic(auto)]
+
 ghost use Rattle.std.specs.Prelude.{◌≡◌, ◌+◌, ◌*◌, ◌<◌, ◌≤◌, length, if◌then◌else◌};
 ghost use Rattle.words.specs.Words.{words_of};
 ghost use Rattle.plan.specs.File.{task_of, transition_at, action_at};

@@ -1,3 +1,5 @@
+#![tactic(auto)]
+
 // Document 01's limits, each named once for the code; specs/Limits.antt names them for the definitions.
 pub const SIGNALS: u32 = 64;
 

@@ -1,14 +1,14 @@
 -- Laws of bits, over every width, and of marks below 64.
-use Prim.Native.Nat.{ℕ, zero, suc, ◌+◌, ◌-◌, ◌*◌, ◌/◌, ◌%◌, ◌^◌, ◌≤◌, ◌<◌, min, max, zero-le, suc-le-suc}
-use native.Mathlib.Nat.{le_of_suc-le-suc, not-suc-le-zero, le_refl, zero-lt-suc, one-mul, mod-lt, div-one, div-eq_of_lt, mod-eq_of_lt, lt_of_lt_of_le, lt_of_le_of_lt, div-add-mod'}
+use Prim.Native.Nat.{ℕ, zero, suc, ◌+◌, ◌*◌, ◌/◌, ◌%◌, ◌^◌, ◌≤◌, ◌<◌, max, zero-le, suc-le-suc}
+use native.Mathlib.Nat.{le_of_suc-le-suc, not-suc-le-zero, zero-lt-suc, one-mul, mod-lt, div-one, div-eq_of_lt, mod-eq_of_lt, lt_of_lt_of_le}
 use native.Mathlib.Numerals.{one-add}
 use native.Mathlib.Omega.{arith}
-use mathlib.Core.Path.{◌≡◌, refl, sym, ap, ap₂, ◌∙◌, subst}
-use mathlib.Core.Bool.{Bool, true, false, ◌&&◌, ◌||◌, not, false≢true, true≢false}
+use mathlib.Core.Path.{◌≡◌, refl, sym, ap, ap₂, ◌∙◌}
+use mathlib.Core.Bool.{Bool, false, ◌||◌}
 use lib.Dec.{eqb, eqb-suc-suc, eqb-zero-suc, eqb-suc-zero, lit<}
-use lib.Arith.{digits_mod, lt-one}
-use lib.Pow.{shl_exact, shr-shr, shr_lt, pow_pos, pow_mono, pow-lt}
-use lib.Bits.{bit_and, bit_or, bit_xor, differ, or_step, and_step, xor_step, or_shr, and_shr, xor_shr, or_lt, and_lt, and_le_l, xor_lt, shifted_half, shifted_even}
+use lib.Arith.{digits_mod}
+use lib.Pow.{shl_exact, shr-shr, pow_pos, pow_mono}
+use lib.Bits.{bit_or, or_step, or_shr, shifted_half, shifted_even}
 use Rattle.marks.specs.Marks.{has, marked, seen, mark}
 
 -- ---- what the machine's `1 << k` gives in a word of w bits

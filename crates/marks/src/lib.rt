@@ -1,4 +1,6 @@
 // A word of 64 bits as a set of numbers below 64: what has been seen is marked, and asked for, in one step.
+#![tactic(auto)]
+
 ghost use Rattle.std.specs.Prelude.{◌≡◌};
 ghost use Rattle.marks.specs.Marks.{seen, mark};
 

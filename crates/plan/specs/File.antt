@@ -1,5 +1,5 @@
 -- Document 01, 'The plan file': what its words say.
-use Rattle.std.specs.Prelude.{ℕ, ◌+◌, ◌*◌, List, [], map, ◌++◌, ◌∷◌, length, get_or}
+use Rattle.std.specs.Prelude.{ℕ, ◌+◌, ◌*◌, List, [], map, ◌++◌, ◌∷◌, get_or}
 use Rattle.words.specs.Words.{words_of, part_of}
 use Rattle.lists.specs.Lists.{tab, part}
 

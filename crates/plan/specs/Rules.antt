@@ -1,10 +1,10 @@
 -- Document 01, 'The plan file' and 'Numbers returned': the rules 1..8 of a plan, and the number and place of a refusal.
-use Rattle.std.specs.Prelude.{ℕ, ◌+◌, ◌*◌, ◌%◌, zero, suc, Bool, true, false, cond, not, ◌&&◌, ◌||◌, List, [], ◌∷◌, ◌++◌, map, length, leb, ltb, eqb}
+use Rattle.std.specs.Prelude.{ℕ, ◌+◌, ◌*◌, ◌%◌, zero, suc, Bool, true, cond, not, ◌&&◌, ◌||◌, List, [], ◌∷◌, ◌++◌, map, length, leb, ltb, eqb}
 use Rattle.limits.specs.Limits.{max_signals, max_tasks, max_priority, max_ports, max_transitions, max_actions, max_order, max_state, max_time, max_plan_bytes}
 use Rattle.words.specs.Words.{words_of}
 use Rattle.lists.specs.Lists.{between, all, absent}
 use Rattle.answers.specs.Answers.{Rule, rule, Verdict, first_broken}
-use Rattle.plan.specs.File.{word, version, signal_count, task_count, start_of, length_of, body_of, Transition, Action, Task, input_count, output_count, transition_count, action_count, actions_at, task_of, task_bodies, Plan, plan_of}
+use Rattle.plan.specs.File.{version, signal_count, task_count, start_of, length_of, Transition, Action, Task, input_count, output_count, transition_count, action_count, actions_at, task_of, task_bodies, plan_of}
 
 -- ---- 1: "plan bytes not a multiple of 4, below 12, or above 20,564"
 abbrev pub size_rule : List ℕ → Bool

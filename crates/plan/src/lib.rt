@@ -2,6 +2,8 @@
 // plan. What the file says stands in specs/File.antt, when it is accepted and which number and place a refusal has in
 // specs/Rules.antt, and the same as a person would write it in specs/Accepted.antt. The check stands in the crates plan_task
 // and plan_check, the body reader in plan_body, the rows of a schedule in plan_schedule.
+#![tactic(auto)]
+
 ghost use Rattle.std.specs.Prelude.{◌≡◌, ◌<◌, ◌≤◌, ◌^◌};
 ghost use Rattle.words.specs.Words.{words_of};
 ghost use Rattle.plan.specs.File.{start_of, length_of, body_part, outputs_at, transitions_at, actions_at};

@@ -1,20 +1,20 @@
 -- Marks find the clash that the lists of numbers seen find: the rules 7 and 8 where 4, 5 and 6 hold of every task.
-use Prim.Native.Nat.{ℕ, zero, suc, ◌+◌, ◌<◌, ◌≤◌}
+use Prim.Native.Nat.{ℕ, ◌+◌, ◌<◌, ◌≤◌}
 use mathlib.Core.Path.{◌≡◌, refl, sym, ap, ap₂, ◌∙◌}
 use mathlib.Core.Bool.{Bool, true, false, cond, not, ◌&&◌, ◌||◌}
 use mathlib.Core.List.{List, [], ◌∷◌, ◌++◌, map}
 use native.Mathlib.Omega.{arith}
-use lib.Dec.{eqb, ltb, leb}
-use borrow.Author.Tests.{ltb-true, leb-true, lt-ltb, eqb-true, eqb-false, eq-eqb, ne_eqb}
-use Rattle.limits.specs.Limits.{max_signals, max_priority}
-use Rattle.lists.specs.Lists.{tab, all, absent}
+use lib.Dec.{eqb, ltb}
+use borrow.Author.Tests.{ltb-true, lt-ltb, eqb-true, eqb-false, eq-eqb, ne_eqb}
+use Rattle.limits.specs.Limits.{max_priority}
+use Rattle.lists.specs.Lists.{all, absent}
 use Rattle.lists.proofs.Laws.{and_left, and_right, and_both, map-tab}
 use Rattle.lists.proofs.Tests.{tests, and_iff}
 use Rattle.marks.specs.Marks.{seen, mark}
 use Rattle.marks.proofs.Laws.{seen-mark, seen_none}
 use Rattle.words.specs.Words.{words_of}
-use Rattle.answers.specs.Answers.{Rule, Verdict, verdict, first_broken, all_hold, or_else}
-use Rattle.answers.proofs.Laws.{Numbered, broken_append, zero_all, all_append}
+use Rattle.answers.specs.Answers.{Verdict, verdict, first_broken, all_hold, or_else}
+use Rattle.answers.proofs.Laws.{broken_append, zero_all, all_append}
 use Rattle.plan.specs.File.{signal_count, task_count, body_of, task_bodies, Task, task_of, plan_of}
 use Rattle.plan.specs.Rules.{timing_rule, body_rule, one_task, task_rules, all_new, after_all, clash_rules, priority_of, head_rules, each_task, priority_rules, output_rules, plan_rules, plan_verdict}
 use Rattle.plan.proofs.Laws.{tasks_numbered, clash_numbered, three_hold}

@@ -1,18 +1,17 @@
 -- The marks of all outputs of an accepted plan are the signals that tasks write.
-use Prim.Native.Nat.{ℕ, ◌+◌, ◌<◌, ◌≤◌}
+use Prim.Native.Nat.{ℕ, ◌<◌, ◌≤◌}
 use mathlib.Core.Path.{◌≡◌, refl, sym, ap, ◌∙◌}
 use mathlib.Core.Bool.{Bool, true, false, not, ◌&&◌}
 use mathlib.Core.List.{List, [], ◌∷◌, ◌++◌, map}
 use lib.Dec.{eqb, ltb}
-use borrow.Author.Tests.{eq-eqb}
 use Rattle.lists.specs.Lists.{all, absent}
-use Rattle.lists.proofs.Laws.{and_left, and_right, and_assoc, and_both, and_true}
+use Rattle.lists.proofs.Laws.{and_left, and_right, and_both, and_true}
 use Rattle.words.specs.Words.{words_of}
 use Rattle.marks.specs.Marks.{seen}
 use Rattle.marks.proofs.Laws.{seen_none}
-use Rattle.answers.specs.Answers.{all_hold, first_broken}
+use Rattle.answers.specs.Answers.{all_hold}
 use Rattle.answers.proofs.Laws.{zero_all, all-zero, all_append}
-use Rattle.plan.specs.File.{signal_count, Task, task_of, task_bodies, plan_of, all_outputs}
+use Rattle.plan.specs.File.{signal_count, task_of, task_bodies, plan_of, all_outputs}
 use Rattle.plan.specs.Rules.{after_all, head_rules, each_task, priority_rules, output_rules, plan_rules, plan_verdict}
 use Rattle.plan.proofs.Laws.{plan_numbered}
 use Rattle.plan_check.specs.Clash.{mark_all, numbers_of}

@@ -1,6 +1,6 @@
 -- How the check finds the first clash of 7 and 8: a word of 64 marks stands for the list of numbers seen.
 -- proofs/Clash.antt shows that this is the papers' rule (plan/specs/Rules.antt) for numbers below 64.
-use Rattle.std.specs.Prelude.{ℕ, ◌+◌, Bool, true, false, cond, not, ◌&&◌, List, [], ◌∷◌}
+use Rattle.std.specs.Prelude.{ℕ, ◌+◌, Bool, true, cond, not, ◌&&◌, List, [], ◌∷◌}
 use Rattle.marks.specs.Marks.{seen, mark}
 use Rattle.answers.specs.Answers.{Verdict, verdict}
 use Rattle.lists.specs.Lists.{tab}

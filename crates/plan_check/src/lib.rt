@@ -1,4 +1,6 @@
 // Document 01, 'Numbers returned': the plan check, rules 1..8 in the paper's order, for any bytes.
+#![tactic(auto)]
+
 ghost use Rattle.std.specs.Prelude.{◌≡◌, ◌+◌, ◌*◌, ◌≤◌, ◌<◌, true, false};
 ghost use Rattle.limits.specs.Limits.{max_tasks};
 ghost use Rattle.words.specs.Words.{words_of};

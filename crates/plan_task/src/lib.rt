@@ -1,4 +1,6 @@
 // Document 01, 'The plan file': the rules 4, 5 and 6 of one task, read from the part of the file that is its body.
+#![tactic(auto)]
+
 ghost use Rattle.std.specs.Prelude.{◌≡◌, ◌+◌, ◌*◌, ◌/◌, ◌<◌, ◌≤◌, ◌^◌, cond, ◌||◌, length, eqb, ltb};
 ghost use Rattle.words.specs.Words.{words_of};
 ghost use Rattle.lists.specs.Lists.{all};

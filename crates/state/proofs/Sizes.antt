@@ -1,6 +1,6 @@
 -- A state that code holds has as many values in each list as its arrays have places: this is what its type says.
-use mathlib.Core.Path.{◌≡◌, refl, sym, ◌∙◌}
-use mathlib.Core.List.{List, [], ◌∷◌, map}
+use mathlib.Core.Path.{◌≡◌, refl}
+use mathlib.Core.List.{List, [], ◌∷◌}
 use mathlib.Core.Bool.{true}
 use borrow.Author.Tests.{eq-eqb}
 use mir.Val.{Val}
@@ -8,7 +8,7 @@ use denote.Shadow.{shadow}
 use denote.Laws.{Is}
 use denote.Array.{each}
 use denote.Struct.Declared.{row}
-use lib.ListN.{length, length-map}
+use lib.ListN.{length}
 use Rattle.limits.specs.Limits.{max_ports, max_signals, max_tasks}
 use Rattle.lists.specs.Lists.{all}
 use Rattle.state.specs.State.{sized_task, sized}

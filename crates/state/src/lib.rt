@@ -1,3 +1,5 @@
+#![tactic(auto)]
+
 // Document 01, 'Task states': the kernel's state. What is fresh, and when a state fits, is defined in specs/; the code that makes
 // and asks it stands in `state_fresh` and `state_fits`.
 const PORTS: usize = limits::PORTS as usize;

@@ -1,4 +1,6 @@
 // Document 01, 'Trace and printing': records of five words in a lent trace.
+#![tactic(auto)]
+
 ghost use Rattle.std.specs.Prelude.{◌≡◌};
 ghost use Rattle.trace.specs.Trace.{put_at};
 

@@ -1,4 +1,6 @@
 // The rows that have their turn, as the bits of a word: the next one in order, without asking the rows between.
+#![tactic(auto)]
+
 ghost use Rattle.std.specs.Prelude.{◌≡◌, ◌<◌};
 ghost use Rattle.marks.specs.Marks.{has};
 ghost use Rattle.turns.specs.Turns.{least};

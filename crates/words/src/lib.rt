@@ -1,4 +1,6 @@
 // Words of 4 bytes, lowest byte first: the numbers that plan files and event lists are made of.
+#![tactic(auto)]
+
 ghost use Rattle.std.specs.Prelude.{◌≡◌, ◌+◌, ◌*◌, ◌≤◌, min, length};
 ghost use Rattle.words.specs.Words.{joined, four_at, word_at, part_of};
 

@@ -1,6 +1,5 @@
 use mathlib.Core.Path.{sym}
 use lib.ListN.{get_or-eq_default}
-use borrow.Author.Rules.{rules}
 use Rattle.arrays.proofs.get.Goals as goal
 
 pub returns-else-i-values : goal.returns-else-i-values

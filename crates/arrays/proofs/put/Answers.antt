@@ -1,6 +1,5 @@
 use mathlib.Core.Path.{sym}
 use lib.Seq.{set_out}
-use borrow.Author.Rules.{rules}
 use Rattle.arrays.proofs.put.Goals as goal
 
 pub returns-else-i-values : goal.returns-else-i-values

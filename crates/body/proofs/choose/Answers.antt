@@ -1,10 +1,6 @@
-use Rattle.std.proofs.Common.{◌≡◌, ◌+◌, ◌-◌, ◌*◌, ◌≤◌, length, rules}
+use Rattle.std.proofs.Common.{rules}
 use native.Mathlib.Nat.{sub-zero}
-use Rattle.words.specs.Words.{words_of}
-use Rattle.lists.specs.Lists.{tab}
-use Rattle.plan.specs.File.{transition_at, transitions_at, task_of}
-use Rattle.body.specs.Body.{in_turn, look, fires}
-use Rattle.body.specs.Steps.{in_hand}
+use Rattle.plan.specs.File.{task_of}
 use Rattle.body.proofs.Laws.{turn_more, turn_done}
 use Rattle.body.proofs.choose.Goals as goal
 

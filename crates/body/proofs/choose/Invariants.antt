@@ -1,11 +1,9 @@
-use Rattle.std.proofs.Common.{◌≡◌, ◌+◌, ◌-◌, ◌*◌, ◌≤◌, length, rules}
-use native.Mathlib.Nat.{sub-zero}
+use Rattle.std.proofs.Common.{◌≡◌, ◌+◌, ◌-◌, ◌*◌, ◌≤◌, length}
 use Rattle.words.specs.Words.{words_of}
 use Rattle.lists.specs.Lists.{tab}
-use Rattle.plan.specs.File.{transition_at, transitions_at, task_of}
+use Rattle.plan.specs.File.{transition_at, transitions_at}
 use Rattle.body.specs.Body.{in_turn, look, fires}
 use Rattle.body.specs.Steps.{in_hand}
-use Rattle.body.proofs.Laws.{turn_more, turn_done}
 use Rattle.body.proofs.choose.Given as goal
 
 -- the transitions from j on, with the best so far, give what all of them give

@@ -1,5 +1,4 @@
 use Rattle.body.specs.Body.{control}
-use Rattle.std.proofs.Common.{rules}
 use Rattle.body.proofs.controller.Goals as goal
 
 pub returns : goal.returns

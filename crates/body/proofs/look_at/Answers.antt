@@ -5,13 +5,16 @@ pub returns-then-known-machine : goal.returns-then-known-machine
 returns-then-known-machine c = record { taken = rw (← c.known.ensures, ne_eqb _ _ c.if-known-machine.true); inside = search rules }
 
 pub returns-then-get-eq0 : goal.returns-then-get-eq0
-returns-then-get-eq0 c = record { taken = rw (
-        ← c.known.ensures,
-        eq-eqb _ _ c.if-known-machine.false,
-        ← c.known-2.ensures,
-        ← c.get.ensures,
-        eq-eqb _ _ c.if-get-eq0.true,
-      ); inside = search rules }
+returns-then-get-eq0 c = record {
+  taken = rw (
+    ← c.known.ensures,
+    eq-eqb _ _ c.if-known-machine.false,
+    ← c.known-2.ensures,
+    ← c.get.ensures,
+    eq-eqb _ _ c.if-get-eq0.true,
+  );
+  inside = search rules;
+}
 
 pub returns : goal.returns
 returns c = let latched = c.args.latched.now in

@@ -1,4 +1,4 @@
-use Rattle.std.proofs.Common.{rules, eq-eqb, ne_eqb}
+use Rattle.std.proofs.Common.{eq-eqb, ne_eqb}
 use Rattle.body.specs.Body.{after}
 use Rattle.body.proofs.next_state.Goals as goal
 

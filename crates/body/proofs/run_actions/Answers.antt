@@ -1,9 +1,6 @@
-use Rattle.std.proofs.Common.{◌≡◌, ◌+◌, ◌-◌, ◌*◌, ◌≤◌, length, ◌∙◌, rules}
+use Rattle.std.proofs.Common.{◌∙◌, rules}
 use native.Mathlib.Nat.{sub-zero}
-use Rattle.words.specs.Words.{words_of}
-use Rattle.lists.specs.Lists.{tab}
-use Rattle.plan.specs.File.{action_at, actions_at, task_of}
-use Rattle.body.specs.Body.{run_actions}
+use Rattle.plan.specs.File.{task_of}
 use Rattle.body.proofs.Laws.{turn_more, turn_done}
 use Rattle.body.proofs.run_actions.Goals as goal
 
@@ -12,15 +9,15 @@ loop-j-init c = (search rules, search rules, rw sub-zero)
 
 pub loop-j-preserved : goal.loop-j-preserved
 loop-j-preserved c = (
-      search rules,
-      c.perform_at.auto.held ∙ c.loop-j.invariant.1,
-      rw (
-        c.loop-j.invariant.2,
-        turn_more _ _ _ _ _ c.loop-j-test.true,
-        c.perform_at.ensures,
-        c.actions_at-first.ensures.value,
-      ),
-    )
+  search rules,
+  c.perform_at.auto.held ∙ c.loop-j.invariant.1,
+  rw (
+    c.loop-j.invariant.2,
+    turn_more _ _ _ _ _ c.loop-j-test.true,
+    c.perform_at.ensures,
+    c.actions_at-first.ensures.value,
+  ),
+)
 
 pub shape_of-held : goal.shape_of-held
 shape_of-held c = c.loop-j.invariant.1

@@ -1,10 +1,8 @@
-use Rattle.std.proofs.Common.{◌≡◌, ◌+◌, ◌-◌, ◌*◌, ◌≤◌, length, ◌∙◌, rules}
-use native.Mathlib.Nat.{sub-zero}
+use Rattle.std.proofs.Common.{◌≡◌, ◌+◌, ◌-◌, ◌*◌, ◌≤◌, length}
 use Rattle.words.specs.Words.{words_of}
 use Rattle.lists.specs.Lists.{tab}
-use Rattle.plan.specs.File.{action_at, actions_at, task_of}
+use Rattle.plan.specs.File.{action_at, actions_at}
 use Rattle.body.specs.Body.{run_actions}
-use Rattle.body.proofs.Laws.{turn_more, turn_done}
 use Rattle.body.proofs.run_actions.Given as goal
 
 -- the actions from j on, on what those before left, leave what all of them leave

@@ -1,4 +1,3 @@
-use Rattle.std.proofs.Common.{rules}
 use Rattle.body.proofs.run_if.Goals as goal
 
 pub returns-then-updated : goal.returns-then-updated

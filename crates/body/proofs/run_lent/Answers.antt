@@ -1,4 +1,4 @@
-use Rattle.std.proofs.Common.{sym, ◌∙◌, rules, eq-eqb, ne_eqb}
+use Rattle.std.proofs.Common.{sym, ◌∙◌, eq-eqb, ne_eqb}
 use Rattle.plan.specs.File.{task_of}
 use Rattle.body.specs.Body.{body}
 use Rattle.body.proofs.run_lent.Goals as goal

@@ -8,19 +8,25 @@ returns-then-best-eq0 c = record { taken = rw (eq-eqb _ _ c.if-best-eq0.true, ne
 
 pub returns-then-known : goal.returns-then-known
 unfolding sooner
-returns-then-known c = let given = c.args in record { taken = rw (
-        ne_eqb given.best 0 c.if-best-eq0.false,
-        ne_eqb given.at 0 (λ e. omega arith),
-        ← c.known.ensures,
-        ← c.known-2.ensures,
-        lt-ltb _ _ c.if-known.true,
-      ); inside = search rules }
+returns-then-known c = let given = c.args in record {
+  taken = rw (
+    ne_eqb given.best 0 c.if-best-eq0.false,
+    ne_eqb given.at 0 (λ e. omega arith),
+    ← c.known.ensures,
+    ← c.known-2.ensures,
+    lt-ltb _ _ c.if-known.true,
+  );
+  inside = search rules;
+}
 
 pub returns-else-known : goal.returns-else-known
 unfolding sooner
-returns-else-known c = let given = c.args in record { taken = rw (
-        ne_eqb given.best 0 c.if-best-eq0.false,
-        ← c.known.ensures,
-        ← c.known-2.ensures,
-        le-ltb _ _ c.if-known.false,
-      ); inside = search rules }
+returns-else-known c = let given = c.args in record {
+  taken = rw (
+    ne_eqb given.best 0 c.if-best-eq0.false,
+    ← c.known.ensures,
+    ← c.known-2.ensures,
+    le-ltb _ _ c.if-known.false,
+  );
+  inside = search rules;
+}

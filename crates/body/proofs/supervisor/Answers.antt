@@ -1,14 +1,13 @@
 use Rattle.body.specs.Body.{supervise}
-use Rattle.std.proofs.Common.{rules}
 use Rattle.body.proofs.supervisor.Goals as goal
 
 pub returns : goal.returns
 unfolding supervise
 returns c = rw (
-      c.run_if.ensures,
-      c.put-2.ensures,
-      c.put.ensures,
-      c.bit.ensures,
-      c.next_state-next.ensures,
-      c.choose-taken.ensures.taken,
-    )
+  c.run_if.ensures,
+  c.put-2.ensures,
+  c.put.ensures,
+  c.bit.ensures,
+  c.next_state-next.ensures,
+  c.choose-taken.ensures.taken,
+)

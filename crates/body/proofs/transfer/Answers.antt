@@ -1,5 +1,5 @@
 use Rattle.body.proofs.Laws.{room}
-use Rattle.std.proofs.Common.{rules, leb-true}
+use Rattle.std.proofs.Common.{leb-true}
 use Rattle.lists.proofs.Laws.{and_left}
 use Rattle.body.specs.Body.{move}
 use Rattle.body.proofs.transfer.Goals as goal

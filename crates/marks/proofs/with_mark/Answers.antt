@@ -1,4 +1,3 @@
-use borrow.Author.Rules.{rules}
 use native.Mathlib.Omega.{arith}
 use Rattle.marks.proofs.Laws.{marked_by_lem}
 use Rattle.marks.proofs.with_mark.Goals as goal

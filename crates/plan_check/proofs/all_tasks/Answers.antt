@@ -1,13 +1,5 @@
-use Prim.Native.Nat.{◌≤◌, ◌+◌, ◌-◌}
 use native.Mathlib.Nat.{sub-zero}
-use mathlib.Core.Path.{◌≡◌}
 use borrow.Author.Rules.{rules}
-use borrow.Author.Tests.{not-true, not-false}
-use Rattle.words.specs.Words.{words_of}
-use Rattle.lists.specs.Lists.{tab}
-use Rattle.answers.specs.Answers.{first_broken}
-use Rattle.plan.specs.File.{body_of}
-use Rattle.plan.specs.Rules.{task_rules}
 use Rattle.plan_check.proofs.Laws.{tasks_more, tasks_done}
 use Rattle.plan_check.proofs.all_tasks.Goals as goal
 
@@ -16,12 +8,12 @@ loop-i-init c = (search rules, rw sub-zero)
 
 pub returns-then-not-accepted : goal.returns-then-not-accepted
 returns-then-not-accepted c = rw (
-      c.loop-i.invariant.1,
-      tasks_more _ _ _ _ c.loop-i-test.true,
-      ← c.one_task-answer.ensures,
-      ← c.accepted.ensures,
-      c.if-not-accepted.true,
-    )
+  c.loop-i.invariant.1,
+  tasks_more _ _ _ _ c.loop-i-test.true,
+  ← c.one_task-answer.ensures,
+  ← c.accepted.ensures,
+  c.if-not-accepted.true,
+)
 
 pub loop-i-preserved : goal.loop-i-preserved
 loop-i-preserved c = (

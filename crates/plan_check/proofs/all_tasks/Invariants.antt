@@ -1,14 +1,10 @@
 use Prim.Native.Nat.{◌≤◌, ◌+◌, ◌-◌}
-use native.Mathlib.Nat.{sub-zero}
 use mathlib.Core.Path.{◌≡◌}
-use borrow.Author.Rules.{rules}
-use borrow.Author.Tests.{not-true, not-false}
 use Rattle.words.specs.Words.{words_of}
 use Rattle.lists.specs.Lists.{tab}
 use Rattle.answers.specs.Answers.{first_broken}
 use Rattle.plan.specs.File.{body_of}
 use Rattle.plan.specs.Rules.{task_rules}
-use Rattle.plan_check.proofs.Laws.{tasks_more, tasks_done}
 use Rattle.plan_check.proofs.all_tasks.Given as goal
 
 abbrev pub invariant-loop-i : goal.invariant-loop-i

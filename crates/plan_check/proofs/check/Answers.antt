@@ -1,17 +1,12 @@
-use Prim.Native.Nat.{ℕ}
 use mathlib.Core.Path.{◌≡◌, sym, ◌∙◌}
-use mathlib.Core.Bool.{Bool, true, false}
-use mathlib.Core.List.{List}
+use mathlib.Core.Bool.{true, false}
 use lib.Dec.{eqb}
-use borrow.Author.Rules.{rules}
-use borrow.Author.Tests.{not-true, not-false, eqb-true}
+use borrow.Author.Tests.{eqb-true}
 use Rattle.answers.specs.Answers.{said, first_broken}
-use Rattle.answers.specs.declared.Answer.{Answer}
-use Rattle.plan.specs.Rules.{head_rules, each_task, plan_verdict}
+use Rattle.plan.specs.Rules.{head_rules, each_task}
 use Rattle.plan_check.proofs.Laws.{asked}
 use Rattle.plan_check.proofs.Clash.{head_decides, head_passes, signals_limit, clashes_are, tasks_decide}
 use Rattle.plan_check.proofs.check.Goals as goal
-
 
 pub returns-then-not-accepted : goal.returns-then-not-accepted
 returns-then-not-accepted c = c.head_answer-head.ensures

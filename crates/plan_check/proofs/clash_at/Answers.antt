@@ -1,4 +1,3 @@
-use borrow.Author.Rules.{rules}
 use Rattle.plan_check.proofs.clash_at.Goals as goal
 
 pub returns-then-outputs : goal.returns-then-outputs

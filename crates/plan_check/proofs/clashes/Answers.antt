@@ -1,5 +1,3 @@
-use borrow.Author.Rules.{rules}
-use borrow.Author.Tests.{not-true, not-false}
 use Rattle.plan_check.proofs.clashes.Goals as goal
 
 pub returns-then-not-accepted : goal.returns-then-not-accepted

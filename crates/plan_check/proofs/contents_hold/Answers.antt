@@ -1,4 +1,3 @@
-use borrow.Author.Rules.{rules}
 use Rattle.words.proofs.Laws.{words_length}
 use Rattle.plan_check.proofs.contents_hold.Goals as goal
 

@@ -1,11 +1,6 @@
-use Prim.Native.Nat.{◌≤◌, ◌<◌, ◌+◌, ◌*◌, ◌-◌}
 use native.Mathlib.Nat.{sub-zero}
-use mathlib.Core.Path.{◌≡◌}
-use mathlib.Core.Bool.{◌&&◌}
 use borrow.Author.Rules.{rules}
-use Rattle.words.specs.Words.{words_of}
 use Rattle.words.proofs.Laws.{words_length}
-use Rattle.plan.specs.Rules.{chained}
 use Rattle.plan_check.proofs.Laws.{chained_more, chained-done}
 use Rattle.plan_check.proofs.entries_chain.Goals as goal
 

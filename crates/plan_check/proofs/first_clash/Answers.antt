@@ -1,12 +1,7 @@
-use Prim.Native.Nat.{◌≤◌, ◌+◌, ◌-◌}
 use native.Mathlib.Nat.{sub-zero}
-use mathlib.Core.Path.{◌≡◌, ◌∙◌, sym, ap}
+use mathlib.Core.Path.{ap}
 use borrow.Author.Rules.{rules}
 use borrow.Author.Tests.{not-true, not-false}
-use Rattle.words.specs.Words.{words_of}
-use Rattle.lists.specs.Lists.{tab}
-use Rattle.plan.specs.File.{body_of, task_of}
-use Rattle.plan_check.specs.Clash.{clash_from, clash_number, numbers_of}
 use Rattle.plan_check.specs.declared.Marked.{Marked}
 use Rattle.plan_check.proofs.Laws.{clash_more, clash_done}
 use Rattle.plan_check.proofs.first_clash.Goals as goal
@@ -16,11 +11,11 @@ loop-i-init c = (search rules, rw sub-zero)
 
 pub returns-then-not-one : goal.returns-then-not-one
 returns-then-not-one c = rw (
-      c.loop-i.invariant.1,
-      clash_more _ _ _ _ _ c.loop-i-test.true,
-      ← ap (λ (m : Marked). m.new) c.mark_one-one.ensures,
-      not-true c.mark_one-one.result.new c.if-not-one.true,
-    ) c.clash_at.ensures
+  c.loop-i.invariant.1,
+  clash_more _ _ _ _ _ c.loop-i-test.true,
+  ← ap (λ (m : Marked). m.new) c.mark_one-one.ensures,
+  not-true c.mark_one-one.result.new c.if-not-one.true,
+) c.clash_at.ensures
 
 pub loop-i-preserved : goal.loop-i-preserved
 loop-i-preserved c = (

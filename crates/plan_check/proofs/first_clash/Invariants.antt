@@ -1,14 +1,9 @@
 use Prim.Native.Nat.{◌≤◌, ◌+◌, ◌-◌}
-use native.Mathlib.Nat.{sub-zero}
-use mathlib.Core.Path.{◌≡◌, ◌∙◌, sym, ap}
-use borrow.Author.Rules.{rules}
-use borrow.Author.Tests.{not-true, not-false}
+use mathlib.Core.Path.{◌≡◌}
 use Rattle.words.specs.Words.{words_of}
 use Rattle.lists.specs.Lists.{tab}
 use Rattle.plan.specs.File.{body_of, task_of}
 use Rattle.plan_check.specs.Clash.{clash_from, clash_number, numbers_of}
-use Rattle.plan_check.specs.declared.Marked.{Marked}
-use Rattle.plan_check.proofs.Laws.{clash_more, clash_done}
 use Rattle.plan_check.proofs.first_clash.Given as goal
 
 abbrev pub invariant-loop-i : goal.invariant-loop-i

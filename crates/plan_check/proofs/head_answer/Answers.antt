@@ -1,6 +1,4 @@
 use mathlib.Core.Path.{sym, ◌∙◌}
-use borrow.Author.Rules.{rules}
-use borrow.Author.Tests.{not-true, not-false}
 use Rattle.words.specs.Words.{words_of}
 use Rattle.answers.specs.Answers.{first_broken}
 use Rattle.plan_check.proofs.Laws.{tasks_limit}
@@ -13,11 +11,11 @@ returns-then-not-size_holds c = rw (← c.size_holds.ensures, c.if-not-size_hold
 pub returns-then-not-head_holds : goal.returns-then-not-head_holds
 unfolding first_broken
 returns-then-not-head_holds c = rw (
-      ← c.size_holds.ensures,
-      c.if-not-size_holds.false,
-      ← c.head_holds.ensures,
-      c.if-not-head_holds.true,
-    )
+  ← c.size_holds.ensures,
+  c.if-not-size_holds.false,
+  ← c.head_holds.ensures,
+  c.if-not-head_holds.true,
+)
 
 pub contents_hold-requires : goal.contents_hold-requires
 contents_hold-requires c = tasks_limit (words_of c.args.bytes.now) (sym c.head_holds.ensures ∙ c.if-not-head_holds.false)
@@ -25,21 +23,21 @@ contents_hold-requires c = tasks_limit (words_of c.args.bytes.now) (sym c.head_h
 pub returns-then-not-contents_hold : goal.returns-then-not-contents_hold
 unfolding first_broken
 returns-then-not-contents_hold c = rw (
-      ← c.size_holds.ensures,
-      c.if-not-size_holds.false,
-      ← c.head_holds.ensures,
-      c.if-not-head_holds.false,
-      ← c.contents_hold.ensures,
-      c.if-not-contents_hold.true,
-    )
+  ← c.size_holds.ensures,
+  c.if-not-size_holds.false,
+  ← c.head_holds.ensures,
+  c.if-not-head_holds.false,
+  ← c.contents_hold.ensures,
+  c.if-not-contents_hold.true,
+)
 
 pub returns : goal.returns
 unfolding first_broken
 returns c = rw (
-      ← c.size_holds.ensures,
-      c.if-not-size_holds.false,
-      ← c.head_holds.ensures,
-      c.if-not-head_holds.false,
-      ← c.contents_hold.ensures,
-      c.if-not-contents_hold.false,
-    )
+  ← c.size_holds.ensures,
+  c.if-not-size_holds.false,
+  ← c.head_holds.ensures,
+  c.if-not-head_holds.false,
+  ← c.contents_hold.ensures,
+  c.if-not-contents_hold.false,
+)

@@ -1,4 +1,3 @@
-use borrow.Author.Rules.{rules}
 use Rattle.plan_check.proofs.head_holds.Goals as goal
 
 pub returns : goal.returns

@@ -1,4 +1,3 @@
-use borrow.Author.Rules.{rules}
 use mathlib.Core.Path.{◌∙◌}
 use Rattle.words.proofs.Laws.{part-words}
 use Rattle.plan_check.proofs.mark_one.Goals as goal

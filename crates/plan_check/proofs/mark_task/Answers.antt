@@ -1,4 +1,3 @@
-use borrow.Author.Rules.{rules}
 use Rattle.lists.specs.Lists.{tab}
 use Rattle.plan.specs.File.{task_of}
 use Rattle.plan_check.proofs.mark_task.Goals as goal

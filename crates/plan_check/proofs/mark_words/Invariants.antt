@@ -1,13 +1,10 @@
 use Prim.Native.Nat.{◌≤◌, ◌+◌, ◌-◌}
-use native.Mathlib.Nat.{sub-zero}
 use mathlib.Core.Path.{◌≡◌}
 use mathlib.Core.Bool.{◌&&◌}
-use borrow.Author.Rules.{rules}
 use Rattle.words.specs.Words.{words_of}
 use Rattle.lists.specs.Lists.{tab}
 use Rattle.plan.specs.File.{word, values}
 use Rattle.plan_check.specs.Clash.{new_to, mark_all}
-use Rattle.plan_check.proofs.Laws.{new_more, new_done, mark-more, mark-done}
 use Rattle.plan_check.proofs.mark_words.Given as goal
 
 abbrev pub invariant-loop-j : goal.invariant-loop-j

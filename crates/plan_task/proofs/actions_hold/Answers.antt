@@ -1,13 +1,6 @@
-use Prim.Native.Nat.{◌≤◌, ◌+◌, ◌*◌, ◌-◌}
 use native.Mathlib.Nat.{sub-zero}
-use mathlib.Core.Path.{◌≡◌}
-use mathlib.Core.Bool.{◌&&◌}
 use borrow.Author.Rules.{rules}
-use Rattle.words.specs.Words.{words_of}
-use Rattle.lists.specs.Lists.{tab, all}
 use Rattle.lists.proofs.Laws.{all_more, all_done}
-use Rattle.plan.specs.File.{action_at, actions_from}
-use Rattle.plan.specs.Rules.{action_rule}
 use Rattle.plan_task.proofs.actions_hold.Goals as goal
 
 pub loop-j-init : goal.loop-j-init

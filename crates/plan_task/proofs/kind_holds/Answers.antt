@@ -1,4 +1,3 @@
-use borrow.Author.Rules.{rules}
 use Rattle.lists.proofs.Laws.{length-tab}
 use Rattle.plan.specs.File.{task_of}
 use Rattle.plan_task.proofs.kind_holds.Goals as goal

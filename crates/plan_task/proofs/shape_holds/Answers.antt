@@ -1,4 +1,3 @@
-use borrow.Author.Rules.{rules}
 use Rattle.words.proofs.Laws.{words_length}
 use Rattle.plan_task.proofs.shape_holds.Goals as goal
 

@@ -1,12 +1,9 @@
-use Prim.Native.Nat.{ℕ, ◌≤◌, ◌<◌, ◌+◌, ◌-◌}
-use native.Mathlib.Nat.{sub-zero}
-use mathlib.Core.Path.{◌≡◌, sym, ◌∙◌}
+use Prim.Native.Nat.{◌≤◌, ◌+◌, ◌-◌}
+use mathlib.Core.Path.{◌≡◌}
 use mathlib.Core.Bool.{◌&&◌}
 use lib.Dec.{ltb}
-use borrow.Author.Rules.{rules}
 use Rattle.words.specs.Words.{words_of}
 use Rattle.lists.specs.Lists.{tab, all}
-use Rattle.lists.proofs.Laws.{all_more, all_done}
 use Rattle.plan.specs.File.{word, values}
 use Rattle.plan_task.proofs.signals_hold.Given as goal
 

@@ -3,8 +3,6 @@ use mathlib.Core.Path.{◌≡◌, sym, ◌∙◌}
 use mathlib.Core.Bool.{true}
 use mathlib.Core.List.{List}
 use lib.ListN.{length}
-use borrow.Author.Rules.{rules}
-use borrow.Author.Tests.{not-true, not-false}
 use Rattle.lists.proofs.Tests.{tests}
 use Rattle.words.specs.Words.{words_of}
 use Rattle.words.proofs.Laws.{words_length}
@@ -24,11 +22,11 @@ returns-then-not-shape_holds c = rw (← c.shape_holds.ensures, c.if-not-shape_h
 pub returns-then-not-timing_holds : goal.returns-then-not-timing_holds
 unfolding first_broken
 returns-then-not-timing_holds c = rw (
-      ← c.shape_holds.ensures,
-      c.if-not-shape_holds.false,
-      ← c.timing_holds.ensures,
-      c.if-not-timing_holds.true,
-    )
+  ← c.shape_holds.ensures,
+  c.if-not-shape_holds.false,
+  ← c.timing_holds.ensures,
+  c.if-not-timing_holds.true,
+)
 
 pub body_holds-requires : goal.body_holds-requires
 body_holds-requires c = shape-length c.args.part.now
@@ -37,21 +35,21 @@ body_holds-requires c = shape-length c.args.part.now
 pub returns-then-not-body_holds : goal.returns-then-not-body_holds
 unfolding first_broken
 returns-then-not-body_holds c = rw (
-      ← c.shape_holds.ensures,
-      c.if-not-shape_holds.false,
-      ← c.timing_holds.ensures,
-      c.if-not-timing_holds.false,
-      ← c.body_holds.ensures,
-      c.if-not-body_holds.true,
-    )
+  ← c.shape_holds.ensures,
+  c.if-not-shape_holds.false,
+  ← c.timing_holds.ensures,
+  c.if-not-timing_holds.false,
+  ← c.body_holds.ensures,
+  c.if-not-body_holds.true,
+)
 
 pub returns : goal.returns
 unfolding first_broken
 returns c = rw (
-      ← c.shape_holds.ensures,
-      c.if-not-shape_holds.false,
-      ← c.timing_holds.ensures,
-      c.if-not-timing_holds.false,
-      ← c.body_holds.ensures,
-      c.if-not-body_holds.false,
-    )
+  ← c.shape_holds.ensures,
+  c.if-not-shape_holds.false,
+  ← c.timing_holds.ensures,
+  c.if-not-timing_holds.false,
+  ← c.body_holds.ensures,
+  c.if-not-body_holds.false,
+)

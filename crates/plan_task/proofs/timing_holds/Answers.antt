@@ -1,4 +1,3 @@
-use borrow.Author.Rules.{rules}
 use Rattle.plan.specs.File.{task_of}
 use Rattle.plan_task.proofs.timing_holds.Goals as goal
 

@@ -1,4 +1,3 @@
-use borrow.Author.Rules.{rules}
 use Rattle.plan_task.proofs.transition_holds.Goals as goal
 
 pub returns : goal.returns

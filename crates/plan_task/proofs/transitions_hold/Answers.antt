@@ -1,13 +1,5 @@
-use Prim.Native.Nat.{◌≤◌, ◌+◌, ◌*◌, ◌-◌}
 use native.Mathlib.Nat.{sub-zero}
-use mathlib.Core.Path.{◌≡◌}
-use mathlib.Core.Bool.{◌&&◌}
 use borrow.Author.Rules.{rules}
-use Rattle.words.specs.Words.{words_of}
-use Rattle.lists.specs.Lists.{tab}
-use Rattle.plan.specs.File.{transition_at, transitions_from}
-use Rattle.plan.specs.Rules.{transitions_rule}
-use Rattle.plan_task.specs.Orders.{new_orders}
 use Rattle.plan_task.proofs.Orders.{orders_are, orders_more, orders_done}
 use Rattle.plan_task.proofs.transitions_hold.Goals as goal
 
@@ -16,18 +8,18 @@ loop-j-init c = (search rules, rw (sub-zero, orders_are))
 
 pub loop-j-preserved : goal.loop-j-preserved
 loop-j-preserved c = (
-      search rules,
-      rw (
-        c.loop-j.invariant.1,
-        orders_more _ _ _ _ _ _ c.loop-j-test.true,
-        c.with_mark-after.ensures,
-        c.is_marked-old.ensures,
-        c.slot_of-slot.ensures.value,
-        c.known.ensures,
-        c.known-order.ensures,
-        c.transition_holds-one.ensures,
-      ),
-    )
+  search rules,
+  rw (
+    c.loop-j.invariant.1,
+    orders_more _ _ _ _ _ _ c.loop-j-test.true,
+    c.with_mark-after.ensures,
+    c.is_marked-old.ensures,
+    c.slot_of-slot.ensures.value,
+    c.known.ensures,
+    c.known-order.ensures,
+    c.transition_holds-one.ensures,
+  ),
+)
 
 pub returns : goal.returns
 returns c = rw (c.loop-j.invariant.1, orders_done _ _ _ _ _ _ c.loop-j-test.false)

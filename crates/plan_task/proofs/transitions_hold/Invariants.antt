@@ -1,14 +1,11 @@
 use Prim.Native.Nat.{◌≤◌, ◌+◌, ◌*◌, ◌-◌}
-use native.Mathlib.Nat.{sub-zero}
 use mathlib.Core.Path.{◌≡◌}
 use mathlib.Core.Bool.{◌&&◌}
-use borrow.Author.Rules.{rules}
 use Rattle.words.specs.Words.{words_of}
 use Rattle.lists.specs.Lists.{tab}
 use Rattle.plan.specs.File.{transition_at, transitions_from}
 use Rattle.plan.specs.Rules.{transitions_rule}
 use Rattle.plan_task.specs.Orders.{new_orders}
-use Rattle.plan_task.proofs.Orders.{orders_are, orders_more, orders_done}
 use Rattle.plan_task.proofs.transitions_hold.Given as goal
 
 abbrev pub invariant-loop-j : goal.invariant-loop-j

@@ -3,7 +3,6 @@ use native.Mathlib.Omega.{arith}
 use lib.ListN.{length, length-set}
 use borrow.Author.Tests.{le-leb, lt-leb}
 use Rattle.trace.specs.Trace.{put_at}
-use borrow.Author.Rules.{rules}
 use Rattle.trace.proofs.put.Goals as goal
 
 pub returns-then-trace-lt5 : goal.returns-then-trace-lt5

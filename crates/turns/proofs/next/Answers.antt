@@ -1,4 +1,4 @@
-use mathlib.Core.Path.{◌≡◌, sym}
+use mathlib.Core.Path.{sym}
 use native.Mathlib.Omega.{arith}
 use Prim.Native.Nat.{◌/◌, ◌^◌}
 use borrow.Author.Rules.{rules}

@@ -1,7 +1,6 @@
 use Prim.Native.Nat.{◌+◌, ◌*◌, ◌-◌}
 use mathlib.Core.Path.{◌≡◌}
 use native.Mathlib.Omega.{arith}
-use borrow.Author.Rules.{rules}
 use Rattle.words.specs.Words.{part_of}
 use Rattle.words.proofs.part.Goals as goal
 

@@ -1,5 +1,4 @@
 use mathlib.Core.Path.{sym, ◌∙◌}
-use borrow.Author.Rules.{rules}
 use Rattle.words.proofs.Laws.{word-is, word_out}
 use Rattle.words.proofs.word.Goals as goal
 
