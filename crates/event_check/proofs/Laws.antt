@@ -1,6 +1,6 @@
 -- The marks of the written signals and of the event-driven tasks, one task at a time; and what rule 9 says of the number of records.
 use Prim.Native.Nat.{ℕ, suc, ◌+◌, ◌-◌, ◌/◌, ◌<◌, ◌≤◌}
-use mathlib.Core.Path.{◌≡◌, refl, sym, ap, ◌∙◌}
+use mathlib.Core.Path.{◌≡◌, refl, ap}
 use mathlib.Core.Bool.{true}
 use mathlib.Core.List.{List, [], ◌∷◌, ◌++◌}
 use native.Mathlib.Omega.{arith}
@@ -11,7 +11,7 @@ use Rattle.lists.proofs.Tests.{tests}
 use Rattle.marks.specs.Marks.{mark}
 use Rattle.plan.specs.File.{Task, all_outputs}
 use Rattle.plan_check.specs.Clash.{mark_all}
-use Rattle.events.specs.Events.{event_size_rule, event_count}
+use Rattle.events.specs.Events.{event_size_rule}
 use Rattle.event_check.specs.Targets.{with_driven, driven_by}
 
 mark-append : (marks : ℕ) (xs ys : List ℕ) → mark_all marks (xs ++ ys) ≡ mark_all (mark_all marks xs) ys

@@ -1,4 +1,6 @@
 // Document 01, 'Numbers returned': the check of a plan with an event list, rules 1..11 in the paper's order, for any bytes.
+#![tactic(auto)]
+
 ghost use Rattle.std.specs.Prelude.{◌≡◌, ◌+◌, ◌*◌, ◌≤◌, length};
 ghost use Rattle.words.specs.Words.{words_of};
 ghost use Rattle.limits.specs.Limits.{last_instant};

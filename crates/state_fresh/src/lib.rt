@@ -1,4 +1,6 @@
 // Document 01, 'Task states': the fresh state of a plan, and the all-zero one.
+#![tactic(auto)]
+
 ghost use Rattle.std.specs.Prelude.{◌≡◌, map, get_or};
 ghost use Rattle.limits.specs.Limits.{max_signals, max_ports};
 ghost use Rattle.words.specs.Words.{words_of};

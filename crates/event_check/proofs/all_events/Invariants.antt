@@ -1,13 +1,9 @@
 use Prim.Native.Nat.{◌≤◌, ◌-◌}
-use native.Mathlib.Nat.{sub-zero}
 use mathlib.Core.Path.{◌≡◌}
-use borrow.Author.Rules.{rules}
-use borrow.Author.Tests.{not-true, not-false}
 use Rattle.words.specs.Words.{words_of}
 use Rattle.lists.specs.Lists.{tab}
 use Rattle.answers.specs.Answers.{first_broken}
 use Rattle.events.specs.Events.{event_of, event_rules}
-use Rattle.events.proofs.Laws.{verdict-more, verdict-done}
 use Rattle.event_check.specs.Targets.{content_by}
 use Rattle.event_check.proofs.all_events.Given as goal
 

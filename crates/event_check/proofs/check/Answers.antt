@@ -1,7 +1,6 @@
 use mathlib.Core.Path.{sym, ◌∙◌}
 use mathlib.Core.Bool.{true, false}
-use borrow.Author.Rules.{rules}
-use borrow.Author.Tests.{not-true, not-false, eqb-true}
+use borrow.Author.Tests.{eqb-true}
 use Rattle.plan_check.proofs.Laws.{asked}
 use Rattle.event_check.proofs.Targets.{plan_decides, list_decides}
 use Rattle.event_check.proofs.check.Goals as goal

@@ -1,8 +1,6 @@
-use Prim.Native.Nat.{◌≤◌, ◌-◌}
 use mathlib.Core.Path.{◌≡◌, ap, ◌∙◌}
 use native.Mathlib.Omega.{arith}
 use borrow.Author.Rules.{rules}
-use Rattle.words.specs.Words.{words_of}
 use Rattle.event_check.specs.Targets.{driven_by}
 use Rattle.event_check.proofs.Laws.{driven_more}
 use Rattle.event_check.proofs.driven_tasks.Goals as goal

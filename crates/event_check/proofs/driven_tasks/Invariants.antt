@@ -1,10 +1,7 @@
 use Prim.Native.Nat.{◌≤◌, ◌-◌}
-use mathlib.Core.Path.{◌≡◌, ap, ◌∙◌}
-use native.Mathlib.Omega.{arith}
-use borrow.Author.Rules.{rules}
+use mathlib.Core.Path.{◌≡◌}
 use Rattle.words.specs.Words.{words_of}
 use Rattle.event_check.specs.Targets.{driven_by}
-use Rattle.event_check.proofs.Laws.{driven_more}
 use Rattle.event_check.proofs.driven_tasks.Given as goal
 
 abbrev pub invariant-loop-i : goal.invariant-loop-i

@@ -1,7 +1,5 @@
 use mathlib.Core.Path.{sym, ◌∙◌}
 use native.Mathlib.Omega.{arith}
-use borrow.Author.Rules.{rules}
-use borrow.Author.Tests.{not-true, not-false}
 use Rattle.answers.specs.Answers.{first_broken}
 use Rattle.lists.specs.Lists.{tab}
 use Rattle.events.specs.Events.{event_rules}

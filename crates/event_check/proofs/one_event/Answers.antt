@@ -1,5 +1,3 @@
-use borrow.Author.Rules.{rules}
-use borrow.Author.Tests.{not-true, not-false}
 use Rattle.answers.specs.Answers.{first_broken}
 use Rattle.event_check.proofs.one_event.Goals as goal
 

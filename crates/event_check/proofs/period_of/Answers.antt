@@ -1,5 +1,4 @@
 use mathlib.Core.Path.{◌∙◌}
-use borrow.Author.Rules.{rules}
 use Rattle.words.proofs.Laws.{part-words}
 use Rattle.event_check.proofs.period_of.Goals as goal
 

@@ -1,4 +1,3 @@
-use borrow.Author.Rules.{rules}
 use Rattle.event_check.proofs.targets_of.Goals as goal
 
 pub returns : goal.returns

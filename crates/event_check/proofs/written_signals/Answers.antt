@@ -1,13 +1,7 @@
-use Prim.Native.Nat.{◌≤◌, ◌+◌, ◌-◌}
 use native.Mathlib.Nat.{sub-zero}
-use mathlib.Core.Path.{◌≡◌, ap}
+use mathlib.Core.Path.{ap}
 use borrow.Author.Rules.{rules}
-use Rattle.words.specs.Words.{words_of}
-use Rattle.lists.specs.Lists.{tab}
-use Rattle.plan.specs.File.{body_of, task_of, all_outputs}
-use Rattle.plan_check.specs.Clash.{mark_all}
 use Rattle.plan_check.specs.declared.Marked.{Marked}
-use Rattle.event_check.specs.Targets.{written_by}
 use Rattle.event_check.proofs.Laws.{written_more, written_done}
 use Rattle.event_check.proofs.written_signals.Goals as goal
 

@@ -1,5 +1,4 @@
 use Rattle.state.proofs.Laws.{task_in_lem, task_out, task_read}
-use borrow.Author.Rules.{rules}
 use Rattle.state_fresh.proofs.fresh_at.Goals as goal
 
 pub returns-then-task-word : goal.returns-then-task-word

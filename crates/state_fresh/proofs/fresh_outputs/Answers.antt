@@ -1,11 +1,4 @@
-use Prim.Native.Nat.{◌≤◌, ◌-◌}
-use lib.ListN.{get_or}
-use mathlib.Core.List.{map}
-use Rattle.state.proofs.Laws.{Filled, fill_none, fill_more, fill_done}
-use Rattle.words.specs.Words.{words_of}
-use Rattle.limits.specs.Limits.{max_ports}
-use Rattle.plan.specs.File.{task_of, plan_of}
-use Rattle.state.specs.State.{value_at}
+use Rattle.state.proofs.Laws.{fill_none, fill_more, fill_done}
 use borrow.Author.Rules.{rules}
 use Rattle.state_fresh.proofs.fresh_outputs.Goals as goal
 

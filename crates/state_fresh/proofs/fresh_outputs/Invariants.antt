@@ -1,12 +1,11 @@
 use Prim.Native.Nat.{◌≤◌, ◌-◌}
 use lib.ListN.{get_or}
 use mathlib.Core.List.{map}
-use Rattle.state.proofs.Laws.{Filled, fill_none, fill_more, fill_done}
+use Rattle.state.proofs.Laws.{Filled}
 use Rattle.words.specs.Words.{words_of}
 use Rattle.limits.specs.Limits.{max_ports}
 use Rattle.plan.specs.File.{task_of, plan_of}
 use Rattle.state.specs.State.{value_at}
-use borrow.Author.Rules.{rules}
 use Rattle.state_fresh.proofs.fresh_outputs.Given as goal
 
 abbrev pub invariant-loop-i : goal.invariant-loop-i

@@ -1,8 +1,4 @@
-use Prim.Native.Nat.{◌≤◌, ◌-◌}
-use Rattle.state.proofs.Laws.{Filled, fill_none, fill_more, fill_done}
-use Rattle.limits.specs.Limits.{max_signals}
-use Rattle.plan.specs.File.{plan_of}
-use Rattle.state.specs.State.{value_at}
+use Rattle.state.proofs.Laws.{fill_none, fill_more, fill_done}
 use borrow.Author.Rules.{rules}
 use Rattle.state_fresh.proofs.fresh_signals.Goals as goal
 

@@ -1,9 +1,8 @@
 use Prim.Native.Nat.{◌≤◌, ◌-◌}
-use Rattle.state.proofs.Laws.{Filled, fill_none, fill_more, fill_done}
+use Rattle.state.proofs.Laws.{Filled}
 use Rattle.limits.specs.Limits.{max_signals}
 use Rattle.plan.specs.File.{plan_of}
 use Rattle.state.specs.State.{value_at}
-use borrow.Author.Rules.{rules}
 use Rattle.state_fresh.proofs.fresh_signals.Given as goal
 
 abbrev pub invariant-loop-i : goal.invariant-loop-i

@@ -1,10 +1,5 @@
-use Prim.Native.Nat.{◌≤◌, ◌-◌}
-use lib.ListN.{get_or}
-use mathlib.Core.List.{map}
-use Rattle.state.proofs.Laws.{Filled, fill_none, fill_more, fill_done}
-use Rattle.limits.specs.Limits.{max_tasks}
-use Rattle.plan.specs.File.{plan_of}
-use Rattle.state.specs.State.{idle, fresh_task, fresh}
+use Rattle.state.proofs.Laws.{fill_none, fill_more, fill_done}
+use Rattle.state.specs.State.{fresh}
 use Rattle.state.proofs.Laws.{fresh-task_at}
 use borrow.Author.Rules.{rules}
 use Rattle.state_fresh.proofs.fresh_state.Goals as goal

@@ -1,12 +1,10 @@
 use Prim.Native.Nat.{◌≤◌, ◌-◌}
 use lib.ListN.{get_or}
 use mathlib.Core.List.{map}
-use Rattle.state.proofs.Laws.{Filled, fill_none, fill_more, fill_done}
+use Rattle.state.proofs.Laws.{Filled}
 use Rattle.limits.specs.Limits.{max_tasks}
 use Rattle.plan.specs.File.{plan_of}
-use Rattle.state.specs.State.{idle, fresh_task, fresh}
-use Rattle.state.proofs.Laws.{fresh-task_at}
-use borrow.Author.Rules.{rules}
+use Rattle.state.specs.State.{idle, fresh_task}
 use Rattle.state_fresh.proofs.fresh_state.Given as goal
 
 abbrev pub invariant-loop-i : goal.invariant-loop-i

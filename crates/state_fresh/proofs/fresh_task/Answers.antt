@@ -1,6 +1,5 @@
 use Rattle.plan.specs.File.{task_of}
 use Rattle.state.specs.State.{fresh_task}
-use borrow.Author.Rules.{rules}
 use Rattle.state_fresh.proofs.fresh_task.Goals as goal
 
 pub returns : goal.returns

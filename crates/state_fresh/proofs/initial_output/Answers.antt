@@ -1,6 +1,5 @@
 use mathlib.Core.Path.{sym}
 use Rattle.state.proofs.Laws.{output_in, output_out}
-use borrow.Author.Rules.{rules}
 use Rattle.state_fresh.proofs.initial_output.Goals as goal
 
 pub returns-then-position-word : goal.returns-then-position-word

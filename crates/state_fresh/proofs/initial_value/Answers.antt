@@ -1,6 +1,5 @@
 use mathlib.Core.Path.{sym}
 use Rattle.state.proofs.Laws.{value_in, value_out}
-use borrow.Author.Rules.{rules}
 use Rattle.state_fresh.proofs.initial_value.Goals as goal
 
 pub returns-then-signal-word : goal.returns-then-signal-word

@@ -1,5 +1,4 @@
 use Rattle.state.specs.State.{zero_state}
-use borrow.Author.Rules.{rules}
 use Rattle.state_fresh.proofs.zero_state.Goals as goal
 
 pub returns : goal.returns
