@@ -1,10 +1,14 @@
 // The test program: a stream of cases on standard input, one line of numbers for each (tests/README.md has the form).
 // A case beyond the stream's limits, of an unknown entry or cut short prints `bad case` and ends the program.
+#![tactic(auto)]
+
+ghost use Rattle.std.specs.Prelude.{◌≤◌, length, IfOk};
+
 use answers::Answer;
 use event_reader::Reading;
 use kernel::{Kernel, Outcome};
-use libc::{STDIN_FILENO, STDOUT_FILENO};
 use state::{State, Status, TaskState};
+use std::io::{self, Read};
 use words::word;
 
 // The largest case.
@@ -23,57 +27,59 @@ const SIGNALS: usize = limits::SIGNALS as usize;
 const PORTS: usize = limits::PORTS as usize;
 
 // A number and what stands before it.
-fn print(before: &[u8], n: u32) {
-    io::write_all(STDOUT_FILENO, before);
-    io::print_decimal(STDOUT_FILENO, n as u64);
+fn print(rt: &impl Print, before: &str, n: u32) -> io::Result<()> {
+    print!(rt; "{before}{n}")
 }
 
-fn end_line() -> bool {
-    io::write_all(STDOUT_FILENO, b"\n")
+fn end_line(rt: &impl Print) -> io::Result<bool> {
+    println!(rt)?;
+    Ok(true)
 }
 
 // Ends the program: no further case is read.
-fn bad_case() -> bool {
-    io::write_all(STDOUT_FILENO, b"bad case\n");
-    false
+fn bad_case(rt: &impl Print) -> io::Result<bool> {
+    println!(rt; "bad case")?;
+    Ok(false)
 }
 
-fn print_answer(answer: Answer) {
-    print(b"", answers::number(answer));
-    print(b" ", answers::place(answer));
+fn print_answer(rt: &impl Print, answer: Answer) -> io::Result<()> {
+    print(rt, "", answers::number(answer))?;
+    print(rt, " ", answers::place(answer))
 }
 
-fn print_words(part: &[u8]) {
+fn print_words(rt: &impl Print, part: &[u8]) -> io::Result<()> {
     let count = part.len() / 4;
     let mut i = 0;
     while i < count {
-        print(b" ", word(part, i));
+        print(rt, " ", word(part, i))?;
         i += 1;
     }
+    Ok(())
 }
 
 // Entries 1 and 2: the checks.
-fn check_case(answer: Answer) -> bool {
-    print_answer(answer);
-    end_line()
+fn check_case(rt: &impl Print, answer: Answer) -> io::Result<bool> {
+    print_answer(rt, answer)?;
+    end_line(rt)
 }
 
 // Entry 3: number and place, then the words of the part handed back.
-fn body_case(plan: &[u8], task: u32) -> bool {
+fn body_case(rt: &impl Print, plan: &[u8], task: u32) -> io::Result<bool> {
     let mut told = [0u32; 2];
     let part = plan_body::task_body(plan, task, &mut told);
-    print(b"", told[0]);
-    print(b" ", told[1]);
-    print_words(part);
-    end_line()
+    print(rt, "", told[0])?;
+    print(rt, " ", told[1])?;
+    print_words(rt, part)?;
+    end_line(rt)
 }
 
-fn print_values(values: &[u32]) {
+fn print_values(rt: &impl Print, values: &[u32]) -> io::Result<()> {
     let mut i = 0;
     while i < values.len() {
-        print(b" ", values[i]);
+        print(rt, " ", values[i])?;
         i += 1;
     }
+    Ok(())
 }
 
 fn status_number(status: Status) -> u32 {
@@ -85,62 +91,62 @@ fn status_number(status: Status) -> u32 {
     }
 }
 
-fn print_task(task: TaskState) {
+fn print_task(rt: &impl Print, task: TaskState) -> io::Result<()> {
     let status = task.status;
     let latched = task.latched;
     let held = task.held;
-    print(b" ", status_number(status));
-    print(b" ", task.remaining);
-    print(b" ", task.release);
-    print(b" ", task.machine);
-    print_values(&latched);
-    print_values(&held);
+    print(rt, " ", status_number(status))?;
+    print(rt, " ", task.remaining)?;
+    print(rt, " ", task.release)?;
+    print(rt, " ", task.machine)?;
+    print_values(rt, &latched)?;
+    print_values(rt, &held)
 }
 
-fn print_tasks(tasks: [TaskState; TASKS]) {
+fn print_tasks(rt: &impl Print, tasks: [TaskState; TASKS]) -> io::Result<()> {
     let mut i = 0;
     while i < TASKS {
         let task = tasks[i];
-        print_task(task);
+        print_task(rt, task)?;
         i += 1;
     }
+    Ok(())
 }
 
 // The state's words: tick, event place, signals, and the tasks.
-fn print_state(state: State) {
+fn print_state(rt: &impl Print, state: State) -> io::Result<()> {
     let signals = state.signals;
     let tasks = state.tasks;
-    print(b" ", state.tick);
-    print(b" ", state.place);
-    print_values(&signals);
-    print_tasks(tasks);
+    print(rt, " ", state.tick)?;
+    print(rt, " ", state.place)?;
+    print_values(rt, &signals)?;
+    print_tasks(rt, tasks)
 }
 
 // Entry 4: a fresh start.
-fn fresh_case(plan: &[u8]) -> bool {
+fn fresh_case(rt: &impl Print, plan: &[u8]) -> io::Result<bool> {
     let started = kernel::fresh_start(plan);
     let answer = started.answer;
     let state = started.state;
-    print_answer(answer);
-    print_state(state);
-    end_line()
+    print_answer(rt, answer)?;
+    print_state(rt, state)?;
+    end_line(rt)
 }
 
-fn print_size(n: usize) {
-    io::write_all(STDOUT_FILENO, b" ");
-    io::print_decimal(STDOUT_FILENO, n as u64);
+fn print_size(rt: &impl Print, n: usize) -> io::Result<()> {
+    print!(rt; " {n}")
 }
 
 // What a run answered, and what it left on its trace.
-fn print_outcome(ended: Outcome, trace: &[u32]) -> bool {
+fn print_outcome(rt: &impl Print, ended: Outcome, trace: &[u32]) -> io::Result<bool> {
     let answer = ended.answer;
     let next = ended.state;
-    print_answer(answer);
-    print(b" ", ended.ticks);
-    print_size(ended.records);
-    print_values(trace);
-    print_state(next);
-    end_line()
+    print_answer(rt, answer)?;
+    print(rt, " ", ended.ticks)?;
+    print_size(rt, ended.records)?;
+    print_values(rt, trace)?;
+    print_state(rt, next)?;
+    end_line(rt)
 }
 
 // 0 past the end.
@@ -217,54 +223,98 @@ fn same_outcome(left: Outcome, right: Outcome) -> bool {
 }
 
 // Words that stand in no line that is expected, so that a difference fails whatever the run printed.
-fn say_difference(same: bool) {
+fn say_difference(rt: &impl Print, same: bool) -> io::Result<()> {
     if !same {
-        io::write_all(STDOUT_FILENO, b"Kernel::tick differs ");
+        print!(rt; "Kernel::tick differs ")?;
     }
+    Ok(())
 }
 
 // One tick by both entries that run: the line is the run's, and `Kernel::tick` must come to the same, to the last word of a trace
 // of its own.
-fn tick_on(plan: &[u8], events: &[u8], state: State, trace: &mut [u32], own: &mut [u32]) -> bool {
+fn tick_on(
+    rt: &impl Print,
+    plan: &[u8],
+    events: &[u8],
+    state: State,
+    trace: &mut [u32],
+    own: &mut [u32],
+) -> io::Result<bool> {
     let ended = kernel::run(plan, events, state, 1, trace);
     let before = Kernel { state };
     let stepped = before.tick(plan, events, own);
-    say_difference(same_outcome(ended, stepped) & same_values(&trace[0..], &own[0..]));
-    print_outcome(ended, &trace[0..])
+    say_difference(
+        rt,
+        same_outcome(ended, stepped) & same_values(&trace[0..], &own[0..]),
+    )?;
+    print_outcome(rt, ended, &trace[0..])
 }
 
-fn tick_case(plan: &[u8], events: &[u8], state: State, words: u32) -> bool {
+fn tick_case(
+    rt: &impl Print,
+    plan: &[u8],
+    events: &[u8],
+    state: State,
+    words: u32,
+) -> io::Result<bool> {
     let mut trace = [limits::TOP_VALUE as u32; TRACE];
     let mut own = [limits::TOP_VALUE as u32; TRACE];
     let size = words as usize;
     if TRACE < size {
-        return bad_case();
+        return bad_case(rt);
     }
-    tick_on(plan, events, state, &mut trace[..size], &mut own[..size])
+    tick_on(
+        rt,
+        plan,
+        events,
+        state,
+        &mut trace[..size],
+        &mut own[..size],
+    )
 }
 
-fn run_on(plan: &[u8], events: &[u8], state: State, asked: u32, trace: &mut [u32]) -> bool {
+fn run_on(
+    rt: &impl Print,
+    plan: &[u8],
+    events: &[u8],
+    state: State,
+    asked: u32,
+    trace: &mut [u32],
+) -> io::Result<bool> {
     let ended = kernel::run(plan, events, state, asked, trace);
-    print_outcome(ended, &trace[0..])
+    print_outcome(rt, ended, &trace[0..])
 }
 
 // Entries 5 and 6: every word of the lent trace is 4294967295.
-fn run_case(plan: &[u8], events: &[u8], state: State, asked: u32, words: u32) -> bool {
+fn run_case(
+    rt: &impl Print,
+    plan: &[u8],
+    events: &[u8],
+    state: State,
+    asked: u32,
+    words: u32,
+) -> io::Result<bool> {
     if asked == 1 {
-        return tick_case(plan, events, state, words);
+        return tick_case(rt, plan, events, state, words);
     }
     let mut trace = [limits::TOP_VALUE as u32; TRACE];
     let size = words as usize;
     if TRACE < size {
-        return bad_case();
+        return bad_case(rt);
     }
-    run_on(plan, events, state, asked, &mut trace[..size])
+    run_on(rt, plan, events, state, asked, &mut trace[..size])
 }
 
-fn fresh_run_case(plan: &[u8], events: &[u8], asked: u32, words: u32) -> bool {
+fn fresh_run_case(
+    rt: &impl Print,
+    plan: &[u8],
+    events: &[u8],
+    asked: u32,
+    words: u32,
+) -> io::Result<bool> {
     let started = kernel::fresh_start(plan);
     let state = started.state;
-    run_case(plan, events, state, asked, words)
+    run_case(rt, plan, events, state, asked, words)
 }
 
 // A status by its number; a number above 3 is none.
@@ -334,9 +384,16 @@ fn is_state(words: &[u8]) -> bool {
     good
 }
 
-fn state_run_case(plan: &[u8], events: &[u8], words: &[u8], asked: u32, trace: u32) -> bool {
+fn state_run_case(
+    rt: &impl Print,
+    plan: &[u8],
+    events: &[u8],
+    words: &[u8],
+    asked: u32,
+    trace: u32,
+) -> io::Result<bool> {
     if !is_state(words) {
-        return bad_case();
+        return bad_case(rt);
     }
     let signals = signals_from(words);
     let tasks = tasks_from(words);
@@ -346,11 +403,11 @@ fn state_run_case(plan: &[u8], events: &[u8], words: &[u8], asked: u32, trace: u
         signals,
         tasks,
     };
-    run_case(plan, events, state, asked, trace)
+    run_case(rt, plan, events, state, asked, trace)
 }
 
 // Entry 7: 1, the record and the place that the reader moves on to; or 0 and the place where it stays.
-fn reader_case(events: &[u8], place: u32) -> bool {
+fn reader_case(rt: &impl Print, events: &[u8], place: u32) -> io::Result<bool> {
     match event_reader::read(events, place as usize) {
         Reading::Record {
             instant,
@@ -359,48 +416,62 @@ fn reader_case(events: &[u8], place: u32) -> bool {
             value,
             next,
         } => {
-            print(b"1 ", instant);
-            print(b" ", kind);
-            print(b" ", target);
-            print(b" ", value);
-            io::write_all(STDOUT_FILENO, b" ");
-            io::print_decimal(STDOUT_FILENO, next as u64);
+            print(rt, "1 ", instant)?;
+            print(rt, " ", kind)?;
+            print(rt, " ", target)?;
+            print(rt, " ", value)?;
+            print_size(rt, next)?;
         }
         Reading::End { place } => {
-            io::write_all(STDOUT_FILENO, b"0 ");
-            io::print_decimal(STDOUT_FILENO, place as u64);
+            print!(rt; "0 {place}")?;
         }
     }
-    end_line()
+    end_line(rt)
 }
 
 fn answer_case(
+    rt: &impl Print,
     entry: u32,
     argument: u32,
     trace: u32,
     plan: &[u8],
     events: &[u8],
     state: &[u8],
-) -> bool {
+) -> io::Result<bool> {
     match entry {
-        1 => check_case(plan_check::check(plan)),
-        2 => check_case(event_check::check(plan, events)),
-        3 => body_case(plan, argument),
-        4 => fresh_case(plan),
-        5 => fresh_run_case(plan, events, argument, trace),
-        6 => state_run_case(plan, events, state, argument, trace),
-        7 => reader_case(events, argument),
-        _ => bad_case(),
+        1 => check_case(rt, plan_check::check(plan)),
+        2 => check_case(rt, event_check::check(plan, events)),
+        3 => body_case(rt, plan, argument),
+        4 => fresh_case(rt, plan),
+        5 => fresh_run_case(rt, plan, events, argument, trace),
+        6 => state_run_case(rt, plan, events, state, argument, trace),
+        7 => reader_case(rt, events, argument),
+        _ => bad_case(rt),
     }
 }
 
-// Reads so many bytes to a buffer's start; false where they are more than it holds, or the input ends before.
-fn read_part(buffer: &mut [u8], size: usize) -> bool {
-    if buffer.len() < size {
-        return false;
+// Reads until the buffer is full or the input ends; how many bytes came.
+fn read_full(input: &mut impl Read, buffer: &mut [u8]) -> io::Result<usize>
+    ensures { IfOk result (λ n. n ≤ length buffer.new) }
+{
+    let mut done: usize = 0;
+    while done < buffer.len() {
+        let got = input.read(&mut buffer[done..])?;
+        if got == 0 {
+            return Ok(done);
+        }
+        done += got;
     }
-    let got = io::read_full(STDIN_FILENO, &mut buffer[..size]);
-    got == size
+    Ok(done)
+}
+
+// Reads so many bytes to a buffer's start; false where they are more than it holds, or the input ends before.
+fn read_part(input: &mut impl Read, buffer: &mut [u8], size: usize) -> io::Result<bool> {
+    if buffer.len() < size {
+        return Ok(false);
+    }
+    let got = read_full(input, &mut buffer[..size])?;
+    Ok(got == size)
 }
 
 // The start of a buffer.
@@ -413,14 +484,14 @@ fn start_of(buffer: &[u8], size: usize) -> &[u8] {
 }
 
 // One case; whether the next may follow.
-fn one_case() -> bool {
+fn one_case(rt: &impl Print, input: &mut impl Read) -> io::Result<bool> {
     let mut head = [0u8; 24];
-    let got = io::read_full(STDIN_FILENO, &mut head);
+    let got = read_full(input, &mut head)?;
     if got == 0 {
-        return false;
+        return Ok(false);
     }
     if (got < 24) | (TRACE < word(&head, 2) as usize) {
-        return bad_case();
+        return bad_case(rt);
     }
     let plan_bytes = word(&head, 3) as usize;
     let event_bytes = word(&head, 4) as usize;
@@ -428,16 +499,17 @@ fn one_case() -> bool {
     let mut plan = [0u8; PLAN_BYTES];
     let mut events = [0u8; EVENT_BYTES];
     let mut state = [0u8; STATE_BYTES];
-    if !read_part(&mut plan, plan_bytes) {
-        return bad_case();
+    if !read_part(input, &mut plan, plan_bytes)? {
+        return bad_case(rt);
     }
-    if !read_part(&mut events, event_bytes) {
-        return bad_case();
+    if !read_part(input, &mut events, event_bytes)? {
+        return bad_case(rt);
     }
-    if !read_part(&mut state, state_bytes) {
-        return bad_case();
+    if !read_part(input, &mut state, state_bytes)? {
+        return bad_case(rt);
     }
     answer_case(
+        rt,
         word(&head, 0),
         word(&head, 1),
         word(&head, 2),
@@ -448,9 +520,11 @@ fn one_case() -> bool {
 }
 
 // A proved loop has to end, and nothing says that a stream does: the turns are counted down from a number that no run uses up.
-fn main() {
+fn main(rt: HostRuntime) -> io::Result<()> {
+    let mut input = rt.stdin();
     let mut turns = u64::MAX;
-    while turns > 0 && one_case() {
+    while turns > 0 && one_case(&rt, &mut input)? {
         turns -= 1;
     }
+    Ok(())
 }

@@ -1,8 +1,10 @@
 // The program of document 01, 'Trace and printing': ticks, plan and events on standard input, what the kernel does with them on
 // standard output. Everything but reading and printing is in the libraries.
-ghost use Rattle.std.specs.Prelude.{◌≤◌};
+#![tactic(auto)]
 
-use libc::{STDIN_FILENO, STDOUT_FILENO};
+ghost use Rattle.std.specs.Prelude.{◌≤◌, length};
+
+use std::io::{self, Read};
 use words::word;
 
 // One step beyond what the kernel accepts: a part that is longer keeps its own number, 1 or 9.
@@ -12,25 +14,43 @@ const EVENT_BYTES: usize = limits::EVENT_BYTES + limits::EVENT_SIZE;
 
 const TRACE_WORDS: usize = limits::TRACE_WORDS;
 
+// Bytes that are dropped at a time.
+const CHUNK: usize = 4096;
+
 fn smaller(a: usize, b: usize) -> usize
     ensures { (result ≤ a) × (result ≤ b) }
 {
     if a <= b { a } else { b }
 }
 
+// Reads until the buffer is full; how many bytes came. An input that cannot be read has ended.
+fn read_full(input: &mut impl Read, buffer: &mut [u8]) -> usize
+    ensures { result ≤ length buffer.new }
+{
+    let mut done: usize = 0;
+    while done < buffer.len() {
+        let got = input.read(&mut buffer[done..]).unwrap_or(0);
+        if got == 0 {
+            return done;
+        }
+        done += got;
+    }
+    done
+}
+
 // Reads so many bytes at most to a buffer's start; how many came.
-fn read_some(buffer: &mut [u8], size: usize) -> usize {
+fn read_some(input: &mut impl Read, buffer: &mut [u8], size: usize) -> usize {
     let most = smaller(size, buffer.len());
-    io::read_full(STDIN_FILENO, &mut buffer[..most])
+    read_full(input, &mut buffer[..most])
 }
 
 // Reads so many bytes and drops them; false where the input ends before.
-fn drop_bytes(size: usize) -> bool {
+fn drop_bytes(input: &mut impl Read, size: usize) -> bool {
     let mut left = size;
     let mut turns: usize = size;
     while turns > 0 && left > 0 {
-        let mut buffer = io::buffer();
-        let got = read_some(&mut buffer, left);
+        let mut buffer = [0u8; CHUNK];
+        let got = read_some(input, &mut buffer, left);
         if got == 0 {
             return false;
         }
@@ -45,56 +65,62 @@ fn less(a: usize, b: usize) -> usize {
 }
 
 // Reads a part of so many bytes to a buffer, and drops what goes beyond it; false where the input ends before.
-fn read_part(buffer: &mut [u8], size: usize) -> bool {
+fn read_part(input: &mut impl Read, buffer: &mut [u8], size: usize) -> bool {
     let held = smaller(size, buffer.len());
-    let got = read_some(buffer, held);
+    let got = read_some(input, buffer, held);
     if got < held {
         return false;
     }
-    drop_bytes(less(size, held))
+    drop_bytes(input, less(size, held))
 }
 
 // Whether nothing is left.
-fn at_end() -> bool {
+fn at_end(input: &mut impl Read) -> bool {
     let mut one = [0u8; 1];
-    io::read_full(STDIN_FILENO, &mut one) == 0
+    read_full(input, &mut one) == 0
 }
 
-fn print_number(before: &[u8], n: usize) {
-    io::write_all(STDOUT_FILENO, before);
-    io::print_decimal(STDOUT_FILENO, n as u64);
+fn print_number(rt: &impl Print, before: &str, n: usize) -> io::Result<()> {
+    print!(rt; "{before}{n}")
 }
 
 // "done", ticks run and the number returned.
-fn print_done(ticks: u32, number: u32) {
-    print_number(b"done ", ticks as usize);
-    print_number(b" ", number as usize);
-    io::write_all(STDOUT_FILENO, b"\n");
+fn print_done(rt: &impl Print, ticks: u32, number: u32) -> io::Result<()> {
+    print_number(rt, "done ", ticks as usize)?;
+    print_number(rt, " ", number as usize)?;
+    println!(rt)
 }
 
 // A line for each record: its five words, one space between.
-fn print_records(trace: &[u32], records: usize) {
+fn print_records(rt: &impl Print, trace: &[u32], records: usize) -> io::Result<()> {
     let lines = smaller(records, TRACE_WORDS);
     let mut i: usize = 0;
     while i < lines {
-        print_number(b"", arrays::get(trace, i * 5) as usize);
-        print_number(b" ", arrays::get(trace, i * 5 + 1) as usize);
-        print_number(b" ", arrays::get(trace, i * 5 + 2) as usize);
-        print_number(b" ", arrays::get(trace, i * 5 + 3) as usize);
-        print_number(b" ", arrays::get(trace, i * 5 + 4) as usize);
-        io::write_all(STDOUT_FILENO, b"\n");
+        print_number(rt, "", arrays::get(trace, i * 5) as usize)?;
+        print_number(rt, " ", arrays::get(trace, i * 5 + 1) as usize)?;
+        print_number(rt, " ", arrays::get(trace, i * 5 + 2) as usize)?;
+        print_number(rt, " ", arrays::get(trace, i * 5 + 3) as usize)?;
+        print_number(rt, " ", arrays::get(trace, i * 5 + 4) as usize)?;
+        println!(rt)?;
         i += 1;
     }
+    Ok(())
 }
 
 // Starts fresh, runs, prints.
-fn run_plan(plan: &[u8], events: &[u8], ticks: u32, trace: &mut [u32]) {
+fn run_plan(
+    rt: &impl Print,
+    plan: &[u8],
+    events: &[u8],
+    ticks: u32,
+    trace: &mut [u32],
+) -> io::Result<()> {
     let started = kernel::fresh_start(plan);
     let state = started.state;
     let ended = kernel::run(plan, events, state, ticks, trace);
     let answer = ended.answer;
-    print_done(ended.ticks, answers::number(answer));
-    print_records(&trace[0..], ended.records);
+    print_done(rt, ended.ticks, answers::number(answer))?;
+    print_records(rt, &trace[0..], ended.records)
 }
 
 // The start of a buffer.
@@ -103,34 +129,38 @@ fn start_of(buffer: &[u8], size: usize) -> &[u8] {
     &buffer[..most]
 }
 
-fn main() {
+// Reads the input to its end, and prints what the kernel does with it.
+fn answer_input(rt: &impl Print, input: &mut impl Read) -> io::Result<()> {
     let mut head = [0u8; 12];
     let mut plan = [0u8; PLAN_BYTES];
     let mut events = [0u8; EVENT_BYTES];
     let mut trace = [0u32; TRACE_WORDS];
-    let got = io::read_full(STDIN_FILENO, &mut head);
+    let got = read_full(input, &mut head);
     let plan_bytes = word(&head, 1) as usize;
     let event_bytes = word(&head, 2) as usize;
     if got < 12 {
-        print_done(0, 15);
-        return;
+        return print_done(rt, 0, 15);
     }
-    if !read_part(&mut plan, plan_bytes) {
-        print_done(0, 15);
-        return;
+    if !read_part(input, &mut plan, plan_bytes) {
+        return print_done(rt, 0, 15);
     }
-    if !read_part(&mut events, event_bytes) {
-        print_done(0, 15);
-        return;
+    if !read_part(input, &mut events, event_bytes) {
+        return print_done(rt, 0, 15);
     }
-    if !at_end() {
-        print_done(0, 15);
-        return;
+    if !at_end(input) {
+        return print_done(rt, 0, 15);
     }
     run_plan(
+        rt,
         start_of(&plan, plan_bytes),
         start_of(&events, event_bytes),
         word(&head, 0),
         &mut trace,
-    );
+    )
+}
+
+// What cannot be written is lost: the program ends with status 0 all the same (tests/README.md, 'Faults from outside').
+fn main(rt: HostRuntime) {
+    let mut input = rt.stdin();
+    let _ = answer_input(&rt, &mut input);
 }

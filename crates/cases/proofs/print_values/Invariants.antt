@@ -1,10 +1,8 @@
-use Prim.Native.Nat.{◌-◌, ◌≤◌}
-use lib.ListN.{length}
-use borrow.Author.Rules.{rules}
+use Rattle.std.proofs.Common.{length, ◌-◌, ◌≤◌}
 use Rattle.cases.proofs.print_values.Given as goal
 
 abbrev pub invariant-loop-i : goal.invariant-loop-i
-invariant-loop-i l = ? ≤ length l.values
+invariant-loop-i g l = l.i ≤ length l.values
 
 abbrev pub decreases-loop-i : goal.decreases-loop-i
-decreases-loop-i l = length l.values - ?
+decreases-loop-i g l = length l.values - l.i

@@ -1,6 +1,4 @@
-use Prim.Native.Nat.{◌-◌, ◌≤◌}
-use lib.ListN.{length}
-use borrow.Author.Rules.{rules}
+use Rattle.std.proofs.Common.{length, ◌-◌, ◌≤◌}
 use Rattle.cases.proofs.same_values.Given as goal
 
 abbrev pub invariant-loop-i : goal.invariant-loop-i

@@ -1,6 +1,5 @@
-use Prim.Native.Nat.{◌-◌, ◌≤◌}
+use Rattle.std.proofs.Common.{◌-◌, ◌≤◌}
 use Rattle.limits.specs.Limits.{max_tasks}
-use borrow.Author.Rules.{rules}
 use Rattle.cases.proofs.tasks_from.Given as goal
 
 abbrev pub invariant-loop-i : goal.invariant-loop-i

@@ -1,7 +1,0 @@
-use native.Mathlib.Omega.{arith}
-use lib.ListN.{length-take}
-use borrow.Author.Rules.{rules}
-use Rattle.vault.proofs.start_of.Goals as goal
-
-pub slice_bounds-result-end : goal.slice_bounds-result-end
-slice_bounds-result-end c = let s = c.smaller-most.ensures in simp length-take (omega arith)
