@@ -1,4 +1,6 @@
 // The public state taken apart into the arrays of numbers that the steps of a tick are lent, and put together again.
+#![tactic(auto)]
+
 ghost use Rattle.std.specs.Prelude.{◌≡◌, [], ◌*◌, ◌<◌, length};
 ghost use Rattle.std.proofs.lemmas.List.Edits.{sets};
 ghost use Rattle.limits.specs.Limits.{max_tasks, max_ports};

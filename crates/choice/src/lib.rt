@@ -1,5 +1,7 @@
 // Document 01, 'One tick', step 3: which task runs. "The choice of the running task reads the lent list of task records": the
 // records are made of the lent arrays, two at a time, and walked by `urgent`.
+#![tactic(auto)]
+
 ghost use Rattle.std.specs.Prelude.{◌≡◌, ◌<◌, ◌≤◌};
 ghost use Rattle.limits.specs.Limits.{max_tasks};
 ghost use Rattle.lists.specs.Lists.{tab};

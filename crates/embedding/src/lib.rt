@@ -1,5 +1,7 @@
 // How another crate uses the kernel: a shift runs so many ticks from a fresh start. Its contract follows from those of the entries
 // by one line of proof (proofs/shift).
+#![tactic(auto)]
+
 ghost use Rattle.kernel.specs.Call.{start_state, Runs};
 
 use kernel::Outcome;

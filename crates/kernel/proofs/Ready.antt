@@ -1,14 +1,13 @@
 -- What a call that no rule refuses gives: the plan and the events are accepted, the state fits, and there is time.
-use Prim.Native.Nat.{ℕ, ◌+◌, ◌*◌, ◌<◌, ◌≤◌, ◌^◌}
+use Prim.Native.Nat.{ℕ, ◌+◌, ◌<◌, ◌≤◌}
 use mathlib.Core.Path.{◌≡◌, refl, sym, ap, subst⁻¹, ◌∙◌}
 use mathlib.Core.Logic.{◌≢◌}
 use mathlib.Core.Bool.{Bool, true, false, cond}
 use mathlib.Core.List.{List}
 use native.Mathlib.Omega.{arith}
-use lib.ListN.{length}
 use lib.Dec.{eqb, leb}
 use borrow.Author.Tests.{eqb-true, leb-true, eq-eqb}
-use Rattle.limits.specs.Limits.{max_tasks, max_time}
+use Rattle.limits.specs.Limits.{max_time}
 use Rattle.words.specs.Words.{words_of}
 use Rattle.words.proofs.Laws.{words_length, part-words}
 use Rattle.lists.proofs.Tests.{pairwise_once}
@@ -30,7 +29,6 @@ use Rattle.state.proofs.Fitting.{fits-exactly}
 use Rattle.tick.specs.Tick.{tick}
 use Rattle.arrays.specs.Arrays.{Sized}
 use Rattle.steps.specs.Flat.{WholeBodies}
-use Rattle.step.specs.declared.Clock.{Clock}
 use Rattle.quiet.specs.Quiet.{Distinct}
 use Rattle.run.specs.Run.{Asked, run_flat}
 use Rattle.whole.specs.Whole.{apart}

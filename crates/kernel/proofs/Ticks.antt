@@ -1,9 +1,9 @@
 -- A run over the arrays is document 01's run of the state that they hold.
-use Prim.Native.Nat.{ℕ, zero, suc, ◌+◌, ◌-◌, ◌*◌, ◌≤◌}
+use Prim.Native.Nat.{ℕ, zero, suc, ◌+◌, ◌-◌, ◌*◌}
 use native.Mathlib.Nat.{add-zero}
-use mathlib.Core.Path.{◌≡◌, refl, sym, ap, ◌∙◌}
+use mathlib.Core.Path.{◌≡◌, ap, ◌∙◌}
 use mathlib.Core.Bool.{Bool, true, false, cond}
-use mathlib.Core.List.{List, [], ◌∷◌, ◌++◌}
+use mathlib.Core.List.{List}
 use native.Mathlib.Omega.{arith}
 use lib.ListN.{length}
 use lib.Dec.{leb}
@@ -12,14 +12,14 @@ use Rattle.answers.specs.Answers.{verdict}
 use Rattle.plan.specs.File.{plan_of}
 use Rattle.plan.specs.Rules.{plan_verdict}
 use Rattle.plan_schedule.specs.Schedule.{schedule_of}
-use Rattle.events.specs.Events.{Event, events_of, passed, event_count, events_verdict}
+use Rattle.events.specs.Events.{Event, events_of, passed, events_verdict}
 use Rattle.state.specs.declared.State.{State}
 use Rattle.arrays.specs.Arrays.{Arrays, Step, Sized}
-use Rattle.tick.specs.Tick.{Moment, Ticked, events_at, tick, ends}
-use Rattle.steps.specs.Flat.{runs_flat, end_from, between}
-use Rattle.step.specs.Step.{Given, given, place_after, with_events, step_flat}
+use Rattle.tick.specs.Tick.{events_at, tick, ends}
+use Rattle.steps.specs.Flat.{runs_flat}
+use Rattle.step.specs.Step.{Given, given, with_events, step_flat}
 use Rattle.run.specs.Run.{Went, halted, further, run_flat}
-use Rattle.whole.specs.Whole.{whole, moment_of}
+use Rattle.whole.specs.Whole.{whole}
 use Rattle.whole.proofs.Schedule.{rows_of}
 use Rattle.whole.proofs.Events.{ends_next, events_between}
 use Rattle.whole.proofs.Running.{served_by}

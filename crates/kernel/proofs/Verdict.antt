@@ -1,11 +1,11 @@
 -- The verdict of a call: the plan's and the events', then 12 and 13.
 use Prim.Native.Nat.{ℕ, ◌+◌}
-use mathlib.Core.Path.{◌≡◌, refl, sym, ap, ◌∙◌}
+use mathlib.Core.Path.{◌≡◌, ◌∙◌}
 use mathlib.Core.Bool.{Bool, true, false, cond}
-use mathlib.Core.List.{List, [], ◌∷◌, ◌++◌}
+use mathlib.Core.List.{List, [], ◌∷◌}
 use lib.Dec.{eqb, leb}
 use Rattle.limits.specs.Limits.{max_time}
-use Rattle.answers.specs.Answers.{Verdict, verdict, Rule, rule, first_broken, or_else}
+use Rattle.answers.specs.Answers.{Verdict, verdict, rule, first_broken, or_else}
 use Rattle.answers.proofs.Laws.{broken_append}
 use Rattle.plan_check.proofs.Laws.{asked}
 use Rattle.plan.specs.File.{plan_of}

@@ -1,5 +1,5 @@
 -- Document 01, 'Numbers returned': what a call comes to, for every input.
-use Rattle.std.specs.Prelude.{ℕ, zero, suc, ◌+◌, ◌-◌, ◌*◌, Bool, cond, ◌≡◌, List, [], ◌∷◌, ◌++◌, length, leb, eqb}
+use Rattle.std.specs.Prelude.{ℕ, zero, suc, ◌+◌, ◌-◌, ◌*◌, cond, ◌≡◌, List, [], ◌∷◌, ◌++◌, length, leb, eqb}
 use Rattle.limits.specs.Limits.{max_time}
 use Rattle.answers.specs.Answers.{Verdict, verdict, said, Rule, rule, first_broken}
 use Rattle.plan.specs.File.{plan_of}

@@ -1,4 +1,6 @@
 // Document 01: the entries of the kernel. Each takes every input and ends with an answer from the paper's list.
+#![tactic(auto)]
+
 ghost use Rattle.std.specs.Prelude.{◌≡◌, ◌+◌, leb, cond};
 ghost use Rattle.limits.specs.Limits.{max_time};
 ghost use Rattle.answers.specs.Answers.{said, verdict};

@@ -1,17 +1,15 @@
 -- The reader's verdict: the plan's, then 26.
-use Prim.Native.Nat.{ℕ, ◌+◌, ◌*◌, ◌-◌, ◌/◌, ◌<◌, ◌≤◌}
+use Prim.Native.Nat.{ℕ, ◌<◌}
 use mathlib.Core.Path.{◌≡◌, refl, sym, ap, ◌∙◌}
 use mathlib.Core.Bool.{Bool, true, false, cond}
-use mathlib.Core.List.{List, [], ◌∷◌, ◌++◌}
+use mathlib.Core.List.{List, [], ◌∷◌}
 use native.Mathlib.Omega.{arith}
 use lib.Dec.{ltb, eqb}
-use lib.ListN.{length}
 use borrow.Author.Tests.{eqb-true, eqb-false, ltb-true}
 use Rattle.words.specs.Words.{words_of}
-use Rattle.words.proofs.Laws.{words_length}
 use Rattle.answers.specs.Answers.{Verdict, verdict, rule, first_broken, or_else}
 use Rattle.answers.proofs.Laws.{broken_append}
-use Rattle.plan.specs.File.{task_count, start_of, length_of}
+use Rattle.plan.specs.File.{task_count}
 use Rattle.plan.specs.Rules.{plan_rules, plan_verdict}
 use Rattle.plan.proofs.Laws.{plan_numbered}
 use Rattle.plan_body.specs.Body.{reader_verdict, pair_of}

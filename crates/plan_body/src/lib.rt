@@ -1,4 +1,6 @@
 // Document 01, 'The plan file': the body reader. It hands back a part of the caller's file, never a copy.
+#![tactic(auto)]
+
 ghost use Rattle.std.specs.Prelude.{◌≡◌};
 ghost use Rattle.answers.specs.Answers.{said};
 ghost use Rattle.plan_body.specs.Body.{reader_verdict, Handed};

@@ -1,5 +1,5 @@
 -- When a row does nothing in steps 1 and 2, no event coming.
-use Prim.Native.Nat.{ℕ, zero, suc, ◌+◌, ◌<◌, ◌≤◌}
+use Prim.Native.Nat.{ℕ, zero, suc, ◌+◌, ◌<◌}
 use mathlib.Core.Path.{◌≡◌, refl, sym, ap, ◌∙◌}
 use mathlib.Core.Bool.{Bool, true, false, cond, not, ◌&&◌, ◌||◌, or-true, true≢false, false≢true}
 use mathlib.Core.List.{List, []}
@@ -9,7 +9,7 @@ use borrow.Author.Tests.{ne_eqb, eqb-true}
 use Rattle.arrays.specs.Arrays.{Arrays, Step, still, ready, active, finished, field, row_field}
 use Rattle.tick.specs.Turns.{requests, ignored, event_call, periodic_call}
 use Rattle.trace.specs.Trace.{miss_kind}
-use Rattle.steps.specs.Flat.{status_of, task_of_row, write_row, fail_row, ends_now, lapse, is_due, call_of_row, answer_row, grant}
+use Rattle.steps.specs.Flat.{status_of, task_of_row, write_row, fail_row, ends_now, lapse, is_due, answer_row, grant}
 use Rattle.state.specs.declared.Status.{Status}
 use Rattle.state.specs.declared.Status.TheVariants.{READY, ACTIVE, FINISHED, ERROR}
 use Rattle.quiet.specs.Quiet.{in_flight, RowQuiet}

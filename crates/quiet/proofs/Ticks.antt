@@ -1,20 +1,19 @@
 -- A tick that can be passed over: its steps come to nothing but that the running task loses a tick.
-use Prim.Native.Nat.{ℕ, zero, suc, ◌+◌, ◌-◌, ◌*◌, ◌<◌, ◌≤◌}
+use Prim.Native.Nat.{ℕ, zero, suc, ◌+◌, ◌-◌, ◌*◌, ◌<◌}
 use mathlib.Core.Path.{◌≡◌, refl, sym, ap, ◌∙◌}
 use mathlib.Core.Bool.{Bool, true, false, cond}
-use mathlib.Core.List.{List, [], ◌∷◌, ◌++◌}
+use mathlib.Core.List.{List, [], ◌∷◌}
 use native.Mathlib.Nat.{sub_self}
 use native.Mathlib.Omega.{arith}
-use lib.ListN.{length, get_or, set}
+use lib.ListN.{length, get_or}
 use lib.Seq.{get_or-set_same, get_or-set_other, set-set}
-use lib.Dec.{ltb, eqb}
-use borrow.Author.Tests.{lt-ltb, le-ltb, ltb-true, ltb-false, ne_eqb}
+use lib.Dec.{ltb}
+use borrow.Author.Tests.{lt-ltb, ltb-true, ne_eqb}
 use Rattle.lists.specs.Lists.{tab}
-use Rattle.arrays.specs.Arrays.{Arrays, Step, still, active, field, with_field, row_field}
-use Rattle.tick.specs.Turns.{ignored}
+use Rattle.arrays.specs.Arrays.{Arrays, Step, still, field, with_field}
 use Rattle.tick.specs.Tick.{set_now}
-use Rattle.steps.specs.Flat.{each_row, task_of_row, status_of, lapse, grant, ends_now, call_of_row, work, first_active, runs_flat, between}
-use Rattle.step.specs.Step.{Given, place_after, with_events, step_flat}
+use Rattle.steps.specs.Flat.{each_row, task_of_row, lapse, grant, work, first_active, runs_flat}
+use Rattle.step.specs.Step.{Given, step_flat}
 use Rattle.quiet.specs.Quiet.{RowQuiet, lowered, Calm}
 use Rattle.quiet.proofs.Rows.{quiet-lapse, quiet-grant}
 

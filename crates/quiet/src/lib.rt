@@ -1,6 +1,8 @@
 // When rows have something to do. In a tick only rows whose instant has come and rows that a release event asks for need their
 // turn, and ticks in which nothing can happen but that the running task loses a tick are passed over in one move: no event, no
 // deadline and no release falls in them, and the running task is not done in them.
+#![tactic(auto)]
+
 ghost use Rattle.std.specs.Prelude.{◌≡◌, false, cond, get_or, leb, ℕ, ◌+◌, ◌-◌, ◌*◌, ◌<◌, ◌≤◌, ◌^◌, min};
 ghost use Rattle.limits.specs.Limits.{max_tasks};
 ghost use Rattle.marks.specs.Marks.{has, seen};

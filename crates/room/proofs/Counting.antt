@@ -1,5 +1,5 @@
 -- The records of a tick counted by the tasks alone: rows in turn, and the three steps together.
-use Prim.Native.Nat.{ℕ, zero, suc, ◌+◌, ◌-◌, ◌*◌, ◌<◌, ◌≤◌}
+use Prim.Native.Nat.{ℕ, zero, suc, ◌+◌, ◌-◌, ◌<◌, ◌≤◌}
 use mathlib.Core.Path.{◌≡◌, refl, sym, ap, ◌∙◌}
 use mathlib.Core.Bool.{Bool, true, false, cond, ◌&&◌}
 use mathlib.Core.List.{List, ◌++◌}
@@ -12,7 +12,7 @@ use Rattle.lists.proofs.Laws.{more, done}
 use Rattle.events.specs.Events.{Event}
 use Rattle.trace.specs.Trace.{entry, ignored_kind}
 use Rattle.arrays.specs.Arrays.{Arrays, Step, still, active, error, field, with_field, row_field}
-use Rattle.tick.specs.Turns.{Call, released, overrun, ignored}
+use Rattle.tick.specs.Turns.{released, overrun, ignored}
 use Rattle.steps.specs.Flat.{each_row, lapse, between, task_of_row, reset, write_row, call_of_row, answer_row, grant, finish_task, work, first_active, runs_flat}
 use Rattle.steps.proofs.Laws.{rows_more, rows_done}
 use Rattle.step.specs.Step.{Given, place_after, with_events, step_flat}

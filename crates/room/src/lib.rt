@@ -1,6 +1,8 @@
 // Whether all records of the next tick fit in the trace. Mostly a bound says so, which costs a few sums; only where the bound does
 // not fit are the records counted, on a copy of the tasks. The counting has code of its own: were the steps of a tick called
 // here too, the compiler would no longer join them with the ticks that are run.
+#![tactic(auto)]
+
 ghost use Rattle.std.specs.Prelude.{◌≡◌, cond, ◌&&◌, List, ℕ, ◌+◌, ◌*◌, ◌-◌, ◌≤◌, ◌^◌, leb, eqb, length};
 ghost use Rattle.limits.specs.Limits.{max_tasks};
 ghost use Rattle.words.specs.Words.{words_of};

@@ -1,15 +1,11 @@
 -- Ticks that are passed over: a run from before them comes to what the run from after them comes to, with so many ticks more.
-use Prim.Native.Nat.{ℕ, zero, suc, ◌+◌, ◌-◌, ◌*◌, ◌<◌, ◌≤◌, zero-le}
-use mathlib.Core.Path.{◌≡◌, refl, sym, ap, ◌∙◌}
-use mathlib.Core.Bool.{Bool, true, false, cond}
-use mathlib.Core.List.{List, []}
+use Prim.Native.Nat.{ℕ, zero, suc, ◌+◌, ◌-◌, ◌≤◌, zero-le}
+use mathlib.Core.Path.{◌≡◌, ap, ◌∙◌}
 use native.Mathlib.Nat.{sub-zero, add-zero}
 use native.Mathlib.Omega.{arith}
-use lib.ListN.{length}
-use lib.Dec.{leb}
 use borrow.Author.Tests.{le-leb}
 use Rattle.arrays.specs.Arrays.{Arrays}
-use Rattle.step.specs.Step.{Given, place_after, step_flat}
+use Rattle.step.specs.Step.{Given}
 use Rattle.quiet.specs.Quiet.{lowered, Calm}
 use Rattle.quiet.proofs.Ticks.{with_tasks, low_more, calm_step, calm_next}
 use Rattle.run.specs.Run.{Went, run_flat}

@@ -1,17 +1,16 @@
 -- What the loop over the turns of a run keeps, and what it ends with.
-use Prim.Native.Nat.{ℕ, zero, suc, ◌+◌, ◌-◌, ◌*◌, ◌<◌, ◌≤◌, ◌^◌}
-use mathlib.Core.Path.{◌≡◌, refl, sym, ap, ◌∙◌}
+use Prim.Native.Nat.{ℕ, ◌+◌, ◌-◌, ◌*◌, ◌<◌, ◌≤◌, ◌^◌}
+use mathlib.Core.Path.{◌≡◌, refl, sym, ◌∙◌}
 use mathlib.Core.Bool.{true, false}
 use mathlib.Core.List.{List}
 use native.Mathlib.Nat.{sub-zero}
 use native.Mathlib.Omega.{arith}
 use lib.ListN.{length}
-use Rattle.limits.specs.Limits.{max_time}
 use Rattle.trace.specs.Trace.{over}
 use Rattle.arrays.specs.Arrays.{Arrays, Sized}
 use Rattle.step.specs.Step.{Given, Ready}
 use Rattle.step.specs.declared.Clock.{Clock}
-use Rattle.run.specs.Run.{Went, run_flat, Sofar, left_after, Turned, Asked, Ends}
+use Rattle.run.specs.Run.{run_flat, Sofar, left_after, Turned, Asked, Ends}
 use Rattle.run.specs.declared.Ran.{Ran}
 
 -- two states of the lent arrays have the same lengths

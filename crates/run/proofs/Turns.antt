@@ -1,6 +1,6 @@
 -- What each kind of turn of a run comes to.
 use Prim.Native.Nat.{ℕ, zero, suc, ◌+◌, ◌-◌, ◌*◌, ◌<◌, ◌≤◌, ◌^◌}
-use mathlib.Core.Path.{◌≡◌, refl, sym, ap, ◌∙◌}
+use mathlib.Core.Path.{◌≡◌, refl, ap, ◌∙◌}
 use mathlib.Core.Bool.{true, false}
 use mathlib.Core.List.{List}
 use native.Mathlib.Nat.{sub-zero, add-zero}
@@ -15,9 +15,8 @@ use Rattle.quiet.specs.Quiet.{OthersWake, OthersLater, OthersRest, lowered, Calm
 use Rattle.quiet.proofs.Ticks.{with_tasks}
 use Rattle.quiet.proofs.Called.{called-all, others_wake, others_rest}
 use Rattle.run.specs.Run.{Went, run_flat, Sofar, Watched, Turned}
-use Rattle.run.specs.declared.Ran.{Ran}
 use Rattle.run.proofs.Laws.{went_more, went_full, sofar_more}
-use Rattle.run.proofs.Calm.{once, later, calm_run}
+use Rattle.run.proofs.Calm.{later, calm_run}
 
 -- ---- a tick in which rows have no turn
 module _ (g : Given) (t place : ℕ) (a : Arrays) (calls last : ℕ) (wakes : List ℕ) (w : Watched g.rows g.count a.tasks t wakes)

@@ -1,5 +1,7 @@
 // Document 01, a run of ticks over the lent arrays: each is run only if all its records fit in the trace, and ticks in which
 // nothing can happen are passed over.
+#![tactic(auto)]
+
 ghost use Rattle.std.specs.Prelude.{◌≡◌, false, cond, List, ℕ, suc, ◌+◌, ◌-◌, ◌*◌, ◌<◌, ◌≤◌, ◌^◌, length};
 ghost use Rattle.limits.specs.Limits.{max_tasks};
 ghost use Rattle.words.specs.Words.{words_of};

@@ -1,4 +1,6 @@
 // Document 01, 'Task states': whether a state fits a plan and its events (number 12).
+#![tactic(auto)]
+
 ghost use Rattle.std.specs.Prelude.{◌≡◌, ◌-◌, ◌≤◌, min};
 ghost use Rattle.limits.specs.Limits.{max_tasks};
 ghost use Rattle.lists.specs.Lists.{tab, all};

@@ -1,4 +1,6 @@
 // Document 01, 'One tick', over the lent arrays: steps 0, 1, 2 and 3, one after the other.
+#![tactic(auto)]
+
 ghost use Rattle.std.specs.Prelude.{◌≡◌, ◌+◌, ◌≤◌, ◌^◌};
 ghost use Rattle.events.specs.Events.{event_count};
 ghost use Rattle.steps.specs.Flat.{WholeBodies};

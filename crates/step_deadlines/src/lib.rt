@@ -1,4 +1,6 @@
 // Document 01, 'One tick', step 1: deadlines, over the lent arrays.
+#![tactic(auto)]
+
 ghost use Rattle.std.specs.Prelude.{◌≡◌, List, ℕ, ◌+◌, ◌<◌, ◌≤◌, ◌^◌};
 ghost use Rattle.limits.specs.Limits.{max_tasks};
 ghost use Rattle.arrays.specs.Arrays.{Does};

@@ -1,4 +1,6 @@
 // Document 01, 'One tick', step 0 over the lent arrays: the events of a tick, and the signals that they set.
+#![tactic(auto)]
+
 ghost use Rattle.std.specs.Prelude.{◌≡◌, ◌-◌, ◌<◌, ◌≤◌, ◌^◌};
 ghost use Rattle.words.specs.Words.{words_of};
 ghost use Rattle.events.specs.Events.{event_of};

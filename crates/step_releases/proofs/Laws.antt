@@ -12,7 +12,7 @@ use Rattle.lists.proofs.Laws.{more, done, tab-more, tab-done}
 use Rattle.events.specs.Events.{Event}
 use Rattle.state.specs.declared.Status.TheVariants.{READY}
 use Rattle.arrays.specs.Arrays.{field, row_field}
-use Rattle.tick.specs.Turns.{requests, Call, released, overrun, ignored, periodic_call, event_call}
+use Rattle.tick.specs.Turns.{requests, released, overrun, ignored, periodic_call, event_call}
 use Rattle.steps.specs.Flat.{status_of, latch, latched_at, task_of_row, is_due, call_of_row}
 use Rattle.step_releases.specs.Asked.{asked_of, closed}
 

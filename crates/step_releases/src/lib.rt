@@ -1,4 +1,6 @@
 // Document 01, 'One tick', step 2 over the lent arrays: releases.
+#![tactic(auto)]
+
 ghost use Rattle.std.specs.Prelude.{◌≡◌, List, cond, ℕ, ◌+◌, ◌*◌, ◌-◌, ◌<◌, ◌≤◌, ◌^◌, eqb, length, replicate};
 ghost use Rattle.limits.specs.Limits.{max_tasks, max_ports};
 ghost use Rattle.words.specs.Words.{words_of};

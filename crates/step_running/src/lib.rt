@@ -1,4 +1,6 @@
 // Document 01, 'One tick', step 3 over the lent arrays: the most urgent ACTIVE task runs for a tick.
+#![tactic(auto)]
+
 ghost use Rattle.std.specs.Prelude.{◌≡◌, ◌+◌, ◌-◌, ◌<◌, ◌≤◌, ◌^◌, min};
 ghost use Rattle.limits.specs.Limits.{max_tasks};
 ghost use Rattle.words.specs.Words.{words_of};

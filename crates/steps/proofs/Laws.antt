@@ -1,13 +1,13 @@
 -- Rows in turn, and writes, one at a time: k done of n.
 use Prim.Native.Nat.{ℕ, suc, ◌+◌, ◌-◌, ◌*◌, ◌<◌, ◌≤◌}
 use mathlib.Core.Path.{◌≡◌, refl, ap, ◌∙◌}
-use mathlib.Core.List.{List, [], ◌∷◌, ◌++◌, map}
+use mathlib.Core.List.{List, [], ◌∷◌, ◌++◌}
 use native.Mathlib.Nat.{sub-zero}
 use native.Mathlib.Omega.{arith}
 use lib.ListN.{length, set, length-append}
 use Rattle.lists.specs.Lists.{tab}
-use Rattle.lists.proofs.Laws.{more, done, tab-more, tab-done, length-tab}
-use Rattle.trace.specs.Trace.{over, put_at, write_entry}
+use Rattle.lists.proofs.Laws.{more, done, tab-more, tab-done}
+use Rattle.trace.specs.Trace.{over, write_entry}
 use Rattle.trace.proofs.Laws.{over-append}
 use Rattle.arrays.specs.Arrays.{Arrays, Step, still}
 use Rattle.tick.specs.Turns.{Write}

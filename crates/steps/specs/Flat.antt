@@ -1,6 +1,6 @@
 -- The steps of a tick over the arrays of numbers, as the code does them: what its contracts say. That they are document 01's
 -- steps (tick/specs) is shown in the crate `whole`.
-use Rattle.std.specs.Prelude.{ℕ, zero, suc, ◌+◌, ◌-◌, ◌*◌, ◌%◌, ◌<◌, Bool, cond, not, ◌&&◌, List, [], ◌∷◌, ◌++◌, map, length, get_or, set, take, drop, replicate, leb, ltb, eqb}
+use Rattle.std.specs.Prelude.{ℕ, zero, suc, ◌+◌, ◌-◌, ◌*◌, ◌%◌, ◌<◌, Bool, cond, not, ◌&&◌, List, [], ◌∷◌, ◌++◌, map, get_or, set, take, drop, replicate, leb, ltb, eqb}
 use Rattle.limits.specs.Limits.{max_ports}
 use Rattle.marks.specs.Marks.{has}
 use Rattle.lists.specs.Lists.{tab}

@@ -17,7 +17,7 @@ use Rattle.zero.specs.Zero.{ticks, zero_run}
 use Rattle.marked.specs.Marked.{Marked}
 use Rattle.marked.proofs.Computing.{computing_marked}
 use Rattle.strength.specs.Strength.{one, other, room_needed, RunsFresh, ran_on, speaks}
-use Rattle.strength.specs.Useless.{ran, accepting, MetOn, TheContractCanBeMet, EveryFreshStartAcceptsP1, EveryRunAcceptsP1}
+use Rattle.strength.specs.Useless.{ran, MetOn, TheContractCanBeMet, EveryFreshStartAcceptsP1, EveryRunAcceptsP1}
 use Rattle.strength.specs.Useless.{RefusingEveryPlanIsShutOut, RefusingEveryRunIsShutOut, P1AndP6LeaveDifferentTraces, AFixedTraceIsShutOut}
 use Rattle.strength.specs.Useless.{OneTickOfP1ChangesTheState, PassingTheStateIsShutOut, NineTicksOfP1LeaveOtherSignalsThanOne}
 use Rattle.strength.specs.Useless.{CopyingAfterTheFirstTickIsShutOut, TheNinthTickOfP1WritesSignals, CopyingInLaterCallsIsShutOut}

@@ -6,7 +6,7 @@ use Rattle.state.specs.declared.State.{State}
 use Rattle.kernel.specs.Call.{start_state, Starts, Runs}
 use Rattle.kernel.specs.declared.Started.{Started}
 use Rattle.kernel.specs.declared.Outcome.{Outcome}
-use Rattle.marked.specs.Marked.{Marked, p1, p2, p6}
+use Rattle.marked.specs.Marked.{Marked, p1, p6}
 
 -- ---- the examples that tell them apart
 -- "(P1) the sample"

@@ -1,5 +1,7 @@
 // Document 01, 'One tick', what its steps share over the lent arrays: the writing of held outputs (steps 1 and 3), and the reset
 // of a task (steps 1, 2 and 3).
+#![tactic(auto)]
+
 ghost use Rattle.std.specs.Prelude.{◌≡◌, ◌+◌, ◌<◌, ◌≤◌, ◌^◌};
 ghost use Rattle.steps.specs.Flat.{task_of_row, reset, row_writes};
 ghost use Rattle.writes.specs.Writes.{Wrote};

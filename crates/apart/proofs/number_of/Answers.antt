@@ -1,4 +1,3 @@
-use borrow.Author.Rules.{rules}
 use Rattle.whole.specs.Whole.{number_of}
 use Rattle.apart.proofs.number_of.Goals as goal
 

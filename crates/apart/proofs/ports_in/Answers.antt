@@ -1,7 +1,4 @@
-use Prim.Native.Nat.{◌≤◌, ◌-◌, ◌+◌, ◌*◌}
-use lib.ListN.{get_or}
-use Rattle.limits.specs.Limits.{max_ports}
-use Rattle.state.proofs.Laws.{Filled, fill_none, fill_more, fill_done}
+use Rattle.state.proofs.Laws.{fill_none, fill_more, fill_done}
 use borrow.Author.Rules.{rules}
 use Rattle.apart.proofs.ports_in.Goals as goal
 

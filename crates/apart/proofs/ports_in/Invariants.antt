@@ -1,8 +1,7 @@
 use Prim.Native.Nat.{◌≤◌, ◌-◌, ◌+◌, ◌*◌}
 use lib.ListN.{get_or}
 use Rattle.limits.specs.Limits.{max_ports}
-use Rattle.state.proofs.Laws.{Filled, fill_none, fill_more, fill_done}
-use borrow.Author.Rules.{rules}
+use Rattle.state.proofs.Laws.{Filled}
 use Rattle.apart.proofs.ports_in.Given as goal
 
 abbrev pub invariant-loop-i : goal.invariant-loop-i

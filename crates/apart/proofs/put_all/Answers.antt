@@ -1,8 +1,5 @@
-use Prim.Native.Nat.{◌≤◌, ◌+◌, ◌-◌}
-use mathlib.Core.Path.{◌≡◌, sym, ◌∙◌}
+use mathlib.Core.Path.{sym, ◌∙◌}
 use native.Mathlib.Nat.{add-zero}
-use lib.ListN.{length, drop}
-use lib.Seq.{sets}
 use borrow.Author.Rules.{rules}
 use Rattle.lists.proofs.Laws.{sets_drop, sets_dropped}
 use Rattle.apart.proofs.put_all.Goals as goal

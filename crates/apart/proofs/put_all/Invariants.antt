@@ -1,10 +1,7 @@
 use Prim.Native.Nat.{◌≤◌, ◌+◌, ◌-◌}
-use mathlib.Core.Path.{◌≡◌, sym, ◌∙◌}
-use native.Mathlib.Nat.{add-zero}
+use mathlib.Core.Path.{◌≡◌}
 use lib.ListN.{length, drop}
 use lib.Seq.{sets}
-use borrow.Author.Rules.{rules}
-use Rattle.lists.proofs.Laws.{sets_drop, sets_dropped}
 use Rattle.apart.proofs.put_all.Given as goal
 
 abbrev pub invariant-loop-i : goal.invariant-loop-i

@@ -1,9 +1,7 @@
 use Prim.Native.Nat.{◌≤◌, ◌-◌}
-use mathlib.Core.Path.{refl, sym, ◌∙◌}
 use Rattle.limits.specs.Limits.{max_tasks, max_ports}
 use Rattle.whole.specs.Whole.{four_of}
-use borrow.Author.Rules.{rules}
-use Rattle.apart.proofs.Laws.{Stored, stored_none, stored_more, stored_all}
+use Rattle.apart.proofs.Laws.{Stored}
 use Rattle.apart.proofs.take_apart.Given as goal
 
 abbrev pub invariant-loop-i : goal.invariant-loop-i

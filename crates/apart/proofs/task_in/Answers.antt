@@ -1,4 +1,3 @@
-use borrow.Author.Rules.{rules}
 use Rattle.apart.proofs.task_in.Goals as goal
 
 pub returns : goal.returns

@@ -1,9 +1,4 @@
-use Prim.Native.Nat.{◌≤◌, ◌-◌}
-use mathlib.Core.List.{[]}
-use Rattle.limits.specs.Limits.{max_tasks}
-use Rattle.state.specs.State.{nowhere}
-use Rattle.state.proofs.Laws.{Filled, fill_none, fill_more, fill_done}
-use Rattle.whole.specs.Whole.{task_in}
+use Rattle.state.proofs.Laws.{fill_none, fill_more, fill_done}
 use borrow.Author.Rules.{rules}
 use Rattle.apart.proofs.together.Goals as goal
 

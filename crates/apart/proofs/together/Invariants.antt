@@ -2,9 +2,8 @@ use Prim.Native.Nat.{◌≤◌, ◌-◌}
 use mathlib.Core.List.{[]}
 use Rattle.limits.specs.Limits.{max_tasks}
 use Rattle.state.specs.State.{nowhere}
-use Rattle.state.proofs.Laws.{Filled, fill_none, fill_more, fill_done}
+use Rattle.state.proofs.Laws.{Filled}
 use Rattle.whole.specs.Whole.{task_in}
-use borrow.Author.Rules.{rules}
 use Rattle.apart.proofs.together.Given as goal
 
 abbrev pub invariant-loop-i : goal.invariant-loop-i

@@ -1,4 +1,3 @@
-use borrow.Author.Rules.{rules}
 use Rattle.choice.specs.Records.{record_of}
 use Rattle.choice.proofs.record_of.Goals as goal
 

@@ -1,8 +1,6 @@
 use Prim.Native.Nat.{◌-◌, min}
-use mathlib.Core.Path.{◌≡◌, refl, sym, ◌∙◌}
+use mathlib.Core.Path.{◌≡◌, sym, ◌∙◌}
 use native.Mathlib.Omega.{arith}
-use borrow.Author.Rules.{rules}
-use Rattle.steps.specs.Flat.{first_active}
 use Rattle.choice.proofs.Choice.{taken, passed, done}
 use Rattle.choice.proofs.running_row.Goals as goal
 

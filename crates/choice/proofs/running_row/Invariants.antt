@@ -1,9 +1,6 @@
 use Prim.Native.Nat.{◌-◌, min}
-use mathlib.Core.Path.{◌≡◌, refl, sym, ◌∙◌}
-use native.Mathlib.Omega.{arith}
-use borrow.Author.Rules.{rules}
+use mathlib.Core.Path.{◌≡◌}
 use Rattle.steps.specs.Flat.{first_active}
-use Rattle.choice.proofs.Choice.{taken, passed, done}
 use Rattle.choice.proofs.running_row.Given as goal
 
 abbrev pub invariant-loop-j : goal.invariant-loop-j

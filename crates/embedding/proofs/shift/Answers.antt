@@ -1,4 +1,3 @@
-use borrow.Author.Rules.{rules}
 use Rattle.embedding.proofs.shift.Goals as goal
 
 -- what the run says of the state that the fresh start returned

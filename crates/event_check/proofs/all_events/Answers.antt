@@ -8,12 +8,12 @@ loop-i-init c = (search rules, rw sub-zero)
 
 pub returns-then-not-accepted : goal.returns-then-not-accepted
 returns-then-not-accepted c = rw (
-      c.loop-i.invariant.1,
-      verdict-more _ _ _ _ _ c.loop-i-test.true,
-      ← c.one_event-answer.ensures,
-      ← c.accepted.ensures,
-      c.if-not-accepted.true,
-    )
+  c.loop-i.invariant.1,
+  verdict-more _ _ _ _ _ c.loop-i-test.true,
+  ← c.one_event-answer.ensures,
+  ← c.accepted.ensures,
+  c.if-not-accepted.true,
+)
 
 pub loop-i-preserved : goal.loop-i-preserved
 loop-i-preserved c = (

@@ -8,19 +8,19 @@ returns-then-not-instant_holds c = rw (← c.known-instant.ensures, ← c.instan
 pub returns-then-not-content_holds : goal.returns-then-not-content_holds
 unfolding first_broken
 returns-then-not-content_holds c = rw (
-      ← c.content_holds.ensures,
-      ← c.known-instant.ensures,
-      ← c.instant_holds.ensures,
-      c.if-not-instant_holds.false,
-      c.if-not-content_holds.true,
-    )
+  ← c.content_holds.ensures,
+  ← c.known-instant.ensures,
+  ← c.instant_holds.ensures,
+  c.if-not-instant_holds.false,
+  c.if-not-content_holds.true,
+)
 
 pub returns : goal.returns
 unfolding first_broken
 returns c = rw (
-      ← c.content_holds.ensures,
-      ← c.known-instant.ensures,
-      ← c.instant_holds.ensures,
-      c.if-not-instant_holds.false,
-      c.if-not-content_holds.false,
-    )
+  ← c.content_holds.ensures,
+  ← c.known-instant.ensures,
+  ← c.instant_holds.ensures,
+  c.if-not-instant_holds.false,
+  c.if-not-content_holds.false,
+)

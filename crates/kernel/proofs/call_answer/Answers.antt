@@ -1,5 +1,4 @@
-use mathlib.Core.Path.{◌≡◌, sym, ◌∙◌}
-use borrow.Author.Rules.{rules}
+use mathlib.Core.Path.{sym, ◌∙◌}
 use borrow.Author.Tests.{eqb-true}
 use Rattle.kernel.proofs.Verdict.{refused_by, accepted_by, check_decides, unfit_is_12, late_is_13, all-hold_is_0}
 use Rattle.kernel.proofs.call_answer.Goals as goal

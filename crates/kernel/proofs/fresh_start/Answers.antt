@@ -1,6 +1,4 @@
-use mathlib.Core.Path.{◌≡◌, ◌∙◌}
 use mathlib.Core.Bool.{true, false}
-use borrow.Author.Rules.{rules}
 use Rattle.plan_check.proofs.Laws.{asked}
 use Rattle.kernel.proofs.fresh_start.Goals as goal
 

@@ -1,5 +1,3 @@
-use mathlib.Core.Path.{◌≡◌}
-use borrow.Author.Rules.{rules}
 use borrow.Author.Tests.{eqb-true}
 use Rattle.trace.specs.Trace.{lines}
 use Rattle.kernel.specs.Call.{call_verdict}

@@ -1,8 +1,6 @@
-use Prim.Native.Nat.{ℕ, ◌*◌}
 use native.Mathlib.Omega.{arith}
-use mathlib.Core.Path.{◌≡◌, refl, sym, ap, ◌∙◌}
+use mathlib.Core.Path.{sym, ap, ◌∙◌}
 use lib.ListN.{length}
-use borrow.Author.Rules.{rules}
 use Rattle.trace.proofs.Laws.{trace_is}
 use Rattle.arrays.specs.Arrays.{Arrays}
 use Rattle.plan_schedule.specs.Schedule.{Schedule}

@@ -1,7 +1,6 @@
 use mathlib.Core.Path.{sym, ◌∙◌}
 use mathlib.Core.Bool.{true, false}
-use borrow.Author.Rules.{rules}
-use borrow.Author.Tests.{not-true, not-false, lt-ltb, le-ltb}
+use borrow.Author.Tests.{lt-ltb, le-ltb}
 use Rattle.plan_check.proofs.Laws.{asked}
 use Rattle.plan_body.proofs.Laws.{plan_decides, task_decides}
 use Rattle.plan_body.proofs.body_answer.Goals as goal

@@ -1,9 +1,6 @@
-use Prim.Native.Nat.{◌-◌, ◌≤◌}
 use native.Mathlib.Nat.{sub-zero}
-use mathlib.Core.Path.{◌≡◌, refl}
 use borrow.Author.Tests.{eq-eqb, ne_eqb}
 use borrow.Author.Rules.{rules}
-use Rattle.steps.specs.Flat.{first_active}
 use Rattle.quiet.proofs.Found.{first_more, first_done}
 use Rattle.quiet.proofs.active_row.Goals as goal
 

@@ -1,4 +1,3 @@
-use borrow.Author.Rules.{rules}
 use Rattle.quiet.proofs.Asked.{unmarked_none}
 use Rattle.quiet.proofs.asked_rows.Goals as goal
 

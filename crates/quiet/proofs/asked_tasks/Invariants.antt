@@ -1,9 +1,7 @@
 use Prim.Native.Nat.{◌-◌}
-use mathlib.Core.Path.{refl}
-use borrow.Author.Rules.{rules}
 use Rattle.words.specs.Words.{words_of}
 use Rattle.steps.specs.Flat.{between}
-use Rattle.quiet.proofs.Asked.{AskedLater, asked_more, asked_done}
+use Rattle.quiet.proofs.Asked.{AskedLater}
 use Rattle.quiet.proofs.asked_tasks.Given as goal
 
 abbrev pub invariant-loop-p : goal.invariant-loop-p

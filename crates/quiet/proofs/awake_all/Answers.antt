@@ -1,10 +1,5 @@
-use Prim.Native.Nat.{◌-◌, ◌^◌, ◌<◌, ◌≤◌}
 use native.Mathlib.Omega.{arith}
-use mathlib.Core.Path.{◌≡◌, refl}
-use lib.ListN.{get_or}
-use lib.Dec.{leb}
-use Rattle.limits.specs.Limits.{max_tasks}
-use Rattle.quiet.specs.Quiet.{AllIn}
+use mathlib.Core.Path.{refl}
 use Rattle.quiet.proofs.Wakes.{doubled, doubled_small, all_more}
 use borrow.Author.Rules.{rules}
 use Rattle.quiet.proofs.awake_all.Goals as goal

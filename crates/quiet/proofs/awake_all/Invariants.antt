@@ -1,12 +1,9 @@
-use Prim.Native.Nat.{◌-◌, ◌^◌, ◌<◌, ◌≤◌}
-use native.Mathlib.Omega.{arith}
-use mathlib.Core.Path.{◌≡◌, refl}
+use Prim.Native.Nat.{◌-◌, ◌^◌, ◌≤◌}
+use mathlib.Core.Path.{◌≡◌}
 use lib.ListN.{get_or}
 use lib.Dec.{leb}
 use Rattle.limits.specs.Limits.{max_tasks}
 use Rattle.quiet.specs.Quiet.{AllIn}
-use Rattle.quiet.proofs.Wakes.{doubled, doubled_small, all_more}
-use borrow.Author.Rules.{rules}
 use Rattle.quiet.proofs.awake_all.Given as goal
 
 abbrev pub invariant-loop-j : goal.invariant-loop-j

@@ -1,9 +1,5 @@
-use Prim.Native.Nat.{◌-◌, ◌<◌, ◌≤◌}
 use native.Mathlib.Omega.{arith}
-use lib.ListN.{get_or}
-use lib.Dec.{leb}
 use Rattle.marks.proofs.Laws.{one_shl}
-use Rattle.quiet.specs.Quiet.{AllIn}
 use Rattle.quiet.proofs.Wakes.{all_more}
 use borrow.Author.Rules.{rules}
 use Rattle.quiet.proofs.awake_few.Goals as goal

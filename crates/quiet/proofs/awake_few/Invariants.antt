@@ -1,11 +1,7 @@
-use Prim.Native.Nat.{◌-◌, ◌<◌, ◌≤◌}
-use native.Mathlib.Omega.{arith}
+use Prim.Native.Nat.{◌-◌, ◌≤◌}
 use lib.ListN.{get_or}
 use lib.Dec.{leb}
-use Rattle.marks.proofs.Laws.{one_shl}
 use Rattle.quiet.specs.Quiet.{AllIn}
-use Rattle.quiet.proofs.Wakes.{all_more}
-use borrow.Author.Rules.{rules}
 use Rattle.quiet.proofs.awake_few.Given as goal
 
 abbrev pub invariant-loop-j : goal.invariant-loop-j

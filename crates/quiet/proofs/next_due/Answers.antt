@@ -1,7 +1,5 @@
-use Prim.Native.Nat.{◌<◌}
 use native.Mathlib.Nat.{mod-lt, le_of_lt}
 use native.Mathlib.Omega.{arith}
-use borrow.Author.Rules.{rules}
 use Rattle.quiet.proofs.Due.{before-offset, between-releases}
 use Rattle.quiet.proofs.next_due.Goals as goal
 

@@ -1,7 +1,5 @@
-use Prim.Native.Nat.{◌<◌}
 use native.Mathlib.Omega.{arith}
 use borrow.Author.Tests.{ne_eqb}
-use borrow.Author.Rules.{rules}
 use Rattle.step_events.proofs.Laws.{end_more, end_done}
 use Rattle.quiet.proofs.next_event.Goals as goal
 

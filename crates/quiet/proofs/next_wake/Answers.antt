@@ -1,6 +1,4 @@
-use Prim.Native.Nat.{◌<◌}
 use native.Mathlib.Omega.{arith}
-use borrow.Author.Rules.{rules}
 use Rattle.quiet.proofs.next_wake.Goals as goal
 
 pub returns-else-count-le-FEW : goal.returns-else-count-le-FEW

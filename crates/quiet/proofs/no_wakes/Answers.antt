@@ -1,6 +1,5 @@
-use Prim.Native.Nat.{◌-◌, ◌<◌, ◌≤◌}
 use native.Mathlib.Omega.{arith}
-use Rattle.quiet.proofs.Wakes.{Noughts, noughts_more}
+use Rattle.quiet.proofs.Wakes.{noughts_more}
 use borrow.Author.Rules.{rules}
 use Rattle.quiet.proofs.no_wakes.Goals as goal
 

@@ -1,7 +1,5 @@
-use Prim.Native.Nat.{◌-◌, ◌<◌, ◌≤◌}
-use native.Mathlib.Omega.{arith}
-use Rattle.quiet.proofs.Wakes.{Noughts, noughts_more}
-use borrow.Author.Rules.{rules}
+use Prim.Native.Nat.{◌-◌, ◌≤◌}
+use Rattle.quiet.proofs.Wakes.{Noughts}
 use Rattle.quiet.proofs.no_wakes.Given as goal
 
 abbrev pub invariant-loop-j : goal.invariant-loop-j

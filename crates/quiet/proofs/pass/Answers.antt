@@ -1,7 +1,4 @@
-use Prim.Native.Nat.{◌-◌, ◌<◌, ◌≤◌}
 use native.Mathlib.Omega.{arith}
-use borrow.Author.Rules.{rules}
-use Rattle.arrays.specs.Arrays.{field}
 use Rattle.quiet.proofs.Found.{passed_none, passed-idle, passed-run, bounded, spared}
 use Rattle.quiet.proofs.pass.Goals as goal
 

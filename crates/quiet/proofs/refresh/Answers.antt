@@ -1,7 +1,5 @@
-use Prim.Native.Nat.{◌-◌}
 use native.Mathlib.Omega.{arith}
-use Rattle.quiet.proofs.Wakes.{Fresh, fresh-none, fresh-more, fresh-done, next_after}
-use borrow.Author.Rules.{rules}
+use Rattle.quiet.proofs.Wakes.{fresh-none, fresh-more, fresh-done, next_after}
 use Rattle.quiet.proofs.refresh.Goals as goal
 
 pub loop-j-init : goal.loop-j-init

@@ -1,7 +1,5 @@
 use Prim.Native.Nat.{◌-◌}
-use native.Mathlib.Omega.{arith}
-use Rattle.quiet.proofs.Wakes.{Fresh, fresh-none, fresh-more, fresh-done, next_after}
-use borrow.Author.Rules.{rules}
+use Rattle.quiet.proofs.Wakes.{Fresh}
 use Rattle.quiet.proofs.refresh.Given as goal
 
 abbrev pub invariant-loop-j : goal.invariant-loop-j

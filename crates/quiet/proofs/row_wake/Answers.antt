@@ -1,7 +1,5 @@
-use Prim.Native.Nat.{◌<◌}
 use native.Mathlib.Omega.{arith}
 use borrow.Author.Tests.{eq-eqb}
-use borrow.Author.Rules.{rules}
 use Rattle.quiet.proofs.Rows.{driven_quiet, due-quiet, flies_quiet, error-quiet}
 use Rattle.quiet.proofs.row_wake.Goals as goal
 

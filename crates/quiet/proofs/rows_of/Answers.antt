@@ -1,9 +1,5 @@
-use Prim.Native.Nat.{◌-◌, ◌≤◌}
 use native.Mathlib.Omega.{arith}
-use Rattle.marks.specs.Marks.{seen}
 use Rattle.marks.proofs.Laws.{one_shl}
-use Rattle.steps.specs.Flat.{task_of_row}
-use Rattle.quiet.specs.Quiet.{AllIn}
 use Rattle.quiet.proofs.Wakes.{all_more}
 use borrow.Author.Rules.{rules}
 use Rattle.quiet.proofs.rows_of.Goals as goal

@@ -1,7 +1,5 @@
-use Prim.Native.Nat.{◌-◌, ◌<◌, ◌≤◌}
 use native.Mathlib.Omega.{arith}
-use Rattle.limits.specs.Limits.{max_tasks}
-use Rattle.quiet.proofs.Wakes.{Below, below_more}
+use Rattle.quiet.proofs.Wakes.{below_more}
 use borrow.Author.Rules.{rules}
 use Rattle.quiet.proofs.wake_all.Goals as goal
 

@@ -1,8 +1,6 @@
-use Prim.Native.Nat.{◌-◌, ◌<◌, ◌≤◌}
-use native.Mathlib.Omega.{arith}
+use Prim.Native.Nat.{◌-◌, ◌≤◌}
 use Rattle.limits.specs.Limits.{max_tasks}
-use Rattle.quiet.proofs.Wakes.{Below, below_more}
-use borrow.Author.Rules.{rules}
+use Rattle.quiet.proofs.Wakes.{Below}
 use Rattle.quiet.proofs.wake_all.Given as goal
 
 abbrev pub invariant-loop-j : goal.invariant-loop-j

@@ -1,6 +1,5 @@
-use Prim.Native.Nat.{◌-◌, ◌<◌, ◌≤◌}
 use native.Mathlib.Omega.{arith}
-use Rattle.quiet.proofs.Wakes.{Below, below_more}
+use Rattle.quiet.proofs.Wakes.{below_more}
 use borrow.Author.Rules.{rules}
 use Rattle.quiet.proofs.wake_few.Goals as goal
 

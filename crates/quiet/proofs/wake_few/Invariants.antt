@@ -1,7 +1,5 @@
-use Prim.Native.Nat.{◌-◌, ◌<◌, ◌≤◌}
-use native.Mathlib.Omega.{arith}
-use Rattle.quiet.proofs.Wakes.{Below, below_more}
-use borrow.Author.Rules.{rules}
+use Prim.Native.Nat.{◌-◌, ◌≤◌}
+use Rattle.quiet.proofs.Wakes.{Below}
 use Rattle.quiet.proofs.wake_few.Given as goal
 
 abbrev pub invariant-loop-j : goal.invariant-loop-j

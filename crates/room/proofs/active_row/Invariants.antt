@@ -1,11 +1,6 @@
 use Prim.Native.Nat.{◌-◌, ◌≤◌}
-use mathlib.Core.Path.{◌≡◌, refl}
-use native.Mathlib.Nat.{sub-zero}
-use native.Mathlib.Omega.{arith}
-use borrow.Author.Rules.{rules}
-use borrow.Author.Tests.{eq-eqb, ne_eqb}
+use mathlib.Core.Path.{◌≡◌}
 use Rattle.steps.specs.Flat.{first_active}
-use Rattle.room.proofs.Counting.{active-more, active-done}
 use Rattle.room.proofs.active_row.Given as goal
 
 abbrev pub invariant-loop-j : goal.invariant-loop-j

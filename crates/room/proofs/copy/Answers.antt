@@ -1,9 +1,8 @@
-use Prim.Native.Nat.{ℕ, ◌≤◌, ◌<◌, ◌-◌}
 use native.Mathlib.Nat.{eq-or-lt_of_le}
 use native.Mathlib.Omega.{arith}
-use mathlib.Core.Path.{◌≡◌, refl, ◌∙◌}
+use mathlib.Core.Path.{refl, ◌∙◌}
 use mathlib.Core.Logic.{⊎_elim}
-use lib.ListN.{length, get_or, length-set}
+use lib.ListN.{length-set}
 use lib.Seq.{get_or-set_same, get_or-set_other, ext_get_or}
 use borrow.Author.Rules.{rules}
 use Rattle.room.proofs.copy.Goals as goal
@@ -13,13 +12,13 @@ loop-i-init c = (search rules, refl, λ k h. absurd (omega arith))
 
 pub loop-i-preserved : goal.loop-i-preserved
 loop-i-preserved c = let l = c.loop-i.invariant.1 in (
-      let m = c.loop-i.invariant.0 in omega (arith, c.loop-i-test.true),
-      simp length-set c.loop-i.invariant.1,
-      λ k h. ⊎_elim
-          (λ e. rw e (get_or-set_same c.loop-i.to c.loop-i.i c.get.result 0 c.loop-i-test.true ∙ c.get.ensures))
-          (λ b. get_or-set_other c.loop-i.to c.loop-i.i k c.get.result 0 (λ e. omega (arith, e, b)) ∙ c.loop-i.invariant.2 k b)
-          (eq-or-lt_of_le {n = k} {m = c.loop-i.i} (omega arith)),
-    )
+  let m = c.loop-i.invariant.0 in omega (arith, c.loop-i-test.true),
+  simp length-set c.loop-i.invariant.1,
+  λ k h. ⊎_elim
+      (λ e. rw e (get_or-set_same c.loop-i.to c.loop-i.i c.get.result 0 c.loop-i-test.true ∙ c.get.ensures))
+      (λ b. get_or-set_other c.loop-i.to c.loop-i.i k c.get.result 0 (λ e. omega (arith, e, b)) ∙ c.loop-i.invariant.2 k b)
+      (eq-or-lt_of_le {n = k} {m = c.loop-i.i} (omega arith)),
+)
 
 pub loop-i-smaller : goal.loop-i-smaller
 loop-i-smaller c = let l = c.loop-i.invariant.1 in omega (arith, c.loop-i-test.true)

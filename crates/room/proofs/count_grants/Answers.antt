@@ -1,12 +1,7 @@
-use Prim.Native.Nat.{◌+◌, ◌*◌, ◌-◌, ◌≤◌, ◌^◌}
-use mathlib.Core.Path.{◌≡◌, refl}
+use mathlib.Core.Path.{refl}
 use native.Mathlib.Omega.{arith}
-use lib.ListN.{length}
 use borrow.Author.Rules.{rules}
-use Rattle.words.specs.Words.{words_of}
-use Rattle.arrays.specs.Arrays.{Arrays}
-use Rattle.steps.specs.Flat.{between, grant}
-use Rattle.room.proofs.Counting.{Sofar, sofar_none, sofar_more, sofar_done}
+use Rattle.room.proofs.Counting.{sofar_none, sofar_more, sofar_done}
 use Rattle.room.proofs.count_grants.Goals as goal
 
 pub loop-j-init : goal.loop-j-init

@@ -1,6 +1,5 @@
 use native.Mathlib.Omega.{arith}
 use mathlib.Core.Path.{refl, sym}
-use borrow.Author.Rules.{rules}
 use borrow.Author.Tests.{eq-eqb, ne_eqb}
 use Rattle.steps.specs.Flat.{lapse}
 use Rattle.room.proofs.Laws.{writes_most}
@@ -8,24 +7,36 @@ use Rattle.room.proofs.count_lapse.Goals as goal
 
 pub returns-then-status-eq-FINISHED : goal.returns-then-status-eq-FINISHED
 unfolding lapse
-returns-then-status-eq-FINISHED c = record { counts = λ a e.
+returns-then-status-eq-FINISHED c = record {
+  counts = λ a e.
       rw (e, ← c.row_field-task.ensures, ← c.row_field-deadline.ensures, ← c.task_field-release.ensures, ← c.task_field-status.ensures, c.if-deadline-t.true, eq-eqb _ _ c.if-status-eq-FINISHED.true)
-      (rw (c.row_field-task.ensures, c.row_field.ensures) (sym (writes_most c.args.t c.args.rows.now c.args.row a)), rw c.reset_task.ensures); small = omega arith }
+      (rw (c.row_field-task.ensures, c.row_field.ensures) (sym (writes_most c.args.t c.args.rows.now c.args.row a)), rw c.reset_task.ensures);
+  small = omega arith;
+}
 
 pub returns-then-status-eq-ACTIVE : goal.returns-then-status-eq-ACTIVE
 unfolding lapse
-returns-then-status-eq-ACTIVE c = record { counts = λ a e.
+returns-then-status-eq-ACTIVE c = record {
+  counts = λ a e.
       rw (e, ← c.row_field-task.ensures, ← c.row_field-deadline.ensures, ← c.task_field-release.ensures, ← c.task_field-status.ensures, c.if-deadline-t.true, ne_eqb _ _ c.if-status-eq-FINISHED.false, eq-eqb _ _ c.if-status-eq-ACTIVE.true)
-      (refl, rw c.reset_task-then-status-eq-ACTIVE.ensures); small = omega arith }
+      (refl, rw c.reset_task-then-status-eq-ACTIVE.ensures);
+  small = omega arith;
+}
 
 pub returns-else-status-eq-ACTIVE : goal.returns-else-status-eq-ACTIVE
 unfolding lapse
-returns-else-status-eq-ACTIVE c = record { counts = λ a e.
+returns-else-status-eq-ACTIVE c = record {
+  counts = λ a e.
       rw (e, ← c.row_field-task.ensures, ← c.row_field-deadline.ensures, ← c.task_field-release.ensures, ← c.task_field-status.ensures, c.if-deadline-t.true, ne_eqb _ _ c.if-status-eq-FINISHED.false, ne_eqb _ _ c.if-status-eq-ACTIVE.false)
-      (refl, refl); small = omega arith }
+      (refl, refl);
+  small = omega arith;
+}
 
 pub returns-else-deadline-t : goal.returns-else-deadline-t
 unfolding lapse
-returns-else-deadline-t c = record { counts = λ a e.
+returns-else-deadline-t c = record {
+  counts = λ a e.
       rw (e, ← c.row_field-task.ensures, ← c.row_field-deadline.ensures, ← c.task_field-release.ensures, ← c.task_field-status.ensures, c.if-deadline-t.false)
-      (refl, refl); small = omega arith }
+      (refl, refl);
+  small = omega arith;
+}

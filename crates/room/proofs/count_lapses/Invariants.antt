@@ -1,11 +1,9 @@
-use Prim.Native.Nat.{◌+◌, ◌*◌, ◌-◌, ◌≤◌, ◌^◌}
-use mathlib.Core.Path.{◌≡◌, refl}
-use native.Mathlib.Omega.{arith}
+use Prim.Native.Nat.{◌*◌, ◌-◌, ◌≤◌, ◌^◌}
+use mathlib.Core.Path.{◌≡◌}
 use lib.ListN.{length}
-use borrow.Author.Rules.{rules}
 use Rattle.arrays.specs.Arrays.{Arrays}
 use Rattle.steps.specs.Flat.{lapse}
-use Rattle.room.proofs.Counting.{Sofar, sofar_none, sofar_more, sofar_done}
+use Rattle.room.proofs.Counting.{Sofar}
 use Rattle.room.proofs.count_lapses.Given as goal
 
 abbrev pub invariant-loop-j : goal.invariant-loop-j

@@ -1,11 +1,6 @@
-use Prim.Native.Nat.{◌≤◌, ◌+◌, ◌-◌}
-use mathlib.Core.Path.{◌≡◌}
 use native.Mathlib.Omega.{arith}
 use native.Mathlib.Nat.{zero-add}
 use borrow.Author.Rules.{rules}
-use Rattle.words.specs.Words.{words_of}
-use Rattle.tick.specs.Turns.{requests}
-use Rattle.steps.specs.Flat.{between}
 use Rattle.step_releases.proofs.Laws.{asks_more, asks_done}
 use Rattle.room.proofs.count_requests.Goals as goal
 

@@ -1,10 +1,6 @@
 use Prim.Native.Nat.{◌+◌, ◌*◌, ◌-◌, ◌≤◌, ◌^◌}
 use mathlib.Core.Path.{◌≡◌}
-use native.Mathlib.Nat.{sub-zero, zero-add}
-use native.Mathlib.Omega.{arith}
-use borrow.Author.Rules.{rules}
 use Rattle.room.specs.Room.{rows_most}
-use Rattle.room.proofs.Laws.{total-more, total-done}
 use Rattle.room.proofs.most_entries.Given as goal
 
 abbrev pub invariant-loop-j : goal.invariant-loop-j

@@ -1,5 +1,4 @@
 use native.Mathlib.Omega.{arith}
-use borrow.Author.Rules.{rules}
 use Rattle.room.proofs.request.Goals as goal
 
 pub returns-then-kind-target : goal.returns-then-kind-target

@@ -1,5 +1,4 @@
 use native.Mathlib.Nat.{add-zero}
-use borrow.Author.Rules.{rules}
 use Rattle.room.proofs.start_task.Goals as goal
 
 pub returns : goal.returns

@@ -1,6 +1,5 @@
 use mathlib.Core.Path.{sym}
 use native.Mathlib.Omega.{arith}
-use borrow.Author.Rules.{rules}
 use Rattle.room.proofs.Laws.{events_few, bound_fits}
 use Rattle.room.proofs.tick_fits.Goals as goal
 

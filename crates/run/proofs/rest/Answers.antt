@@ -1,7 +1,5 @@
-use Prim.Native.Nat.{◌<◌}
 use native.Mathlib.Omega.{arith}
 use mathlib.Core.Path.{refl}
-use borrow.Author.Rules.{rules}
 use Rattle.step.specs.Step.{given}
 use Rattle.quiet.proofs.Wakes.{wakes_lowered}
 use Rattle.run.proofs.Turns.{turned_none, turned_rest, rest_none}

@@ -1,15 +1,7 @@
-use Prim.Native.Nat.{ℕ, ◌-◌, ◌<◌}
 use native.Mathlib.Omega.{arith}
 use mathlib.Core.Path.{◌∙◌}
-use mathlib.Core.List.{List}
-use lib.ListN.{length}
-use borrow.Author.Rules.{rules}
-use Rattle.arrays.specs.Arrays.{Arrays}
-use Rattle.step.specs.Step.{given}
-use Rattle.run.specs.Run.{Watched}
-use Rattle.run.proofs.Kept.{Kept, AsLong, kept_none, kept_ready, kept_asks, kept_done, kept_more, kept_full, nearer}
+use Rattle.run.proofs.Kept.{kept_none, kept_ready, kept_asks, kept_done, kept_more, kept_full, nearer}
 use Rattle.run.proofs.run_ticks.Goals as goal
-
 
 pub most_entries-most-requires : goal.most_entries-most-requires
 most_entries-most-requires c = c.requires.asked.rows

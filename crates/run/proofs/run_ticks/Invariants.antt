@@ -1,13 +1,9 @@
-use Prim.Native.Nat.{ℕ, ◌-◌, ◌<◌}
-use native.Mathlib.Omega.{arith}
-use mathlib.Core.Path.{◌∙◌}
+use Prim.Native.Nat.{ℕ, ◌-◌}
 use mathlib.Core.List.{List}
-use lib.ListN.{length}
-use borrow.Author.Rules.{rules}
 use Rattle.arrays.specs.Arrays.{Arrays}
 use Rattle.step.specs.Step.{given}
 use Rattle.run.specs.Run.{Watched}
-use Rattle.run.proofs.Kept.{Kept, AsLong, kept_none, kept_ready, kept_asks, kept_done, kept_more, kept_full, nearer}
+use Rattle.run.proofs.Kept.{Kept}
 use Rattle.run.proofs.run_ticks.Given as goal
 
 abbrev pub arrays : List ℕ → List ℕ → List ℕ → List ℕ → Arrays

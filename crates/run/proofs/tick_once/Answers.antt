@@ -1,6 +1,4 @@
-use native.Mathlib.Omega.{arith}
 use mathlib.Core.Path.{refl}
-use borrow.Author.Rules.{rules}
 use Rattle.run.proofs.Laws.{enough, short}
 use Rattle.run.proofs.Turns.{turned_full, turned_once, turns_all, turns_wake}
 use Rattle.run.proofs.tick_once.Goals as goal

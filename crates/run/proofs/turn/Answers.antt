@@ -1,7 +1,6 @@
 use Prim.Native.Nat.{ℕ, suc, ◌-◌, ◌<◌}
 use native.Mathlib.Omega.{arith}
 use mathlib.Core.Path.{◌≡◌}
-use borrow.Author.Rules.{rules}
 use Rattle.run.proofs.turn.Goals as goal
 
 -- a number above 0 is one more than another
@@ -25,15 +24,15 @@ returns-then-one-ne0 c = record { turned = c.rest-one.ensures.turned _ _ _ _ _ c
 
 pub tick_once-requires : goal.tick_once-requires
 tick_once-requires c = rw (c.rest-one.ensures.still c.if-one-ne0.false) (record {
-      ready = c.requires.ready;
-      sized = c.requires.sized;
-      most_is = c.requires.most_is;
-      at_inside = c.requires.at_inside.0;
-      watched = c.requires.watched;
-      whole_bodies = c.requires.whole_bodies;
-      last_is = c.end_of-last.ensures.value;
-      others_later = c.calls-calls.ensures;
-    })
+  ready = c.requires.ready;
+  sized = c.requires.sized;
+  most_is = c.requires.most_is;
+  at_inside = c.requires.at_inside.0;
+  watched = c.requires.watched;
+  whole_bodies = c.requires.whole_bodies;
+  last_is = c.end_of-last.ensures.value;
+  others_later = c.calls-calls.ensures;
+})
 
 pub returns : goal.returns
 returns c = record { turned = rw (one_more _ c.requires.at_inside.1, c.rest-one.ensures.still c.if-one-ne0.false) at (c.tick_once.ensures.turned (c.args.left - 1)); moves = λ f. let t = rw f at c.tick_once.ensures.moves in omega arith; watched = c.tick_once.ensures.watched }

@@ -3,7 +3,6 @@ use Rattle.state.specs.Fits.{fits}
 use Rattle.state.proofs.Laws.{place_told}
 use Rattle.state.proofs.Sizes.{state_sized}
 use Rattle.state_fits.proofs.Tasks.{apart}
-use borrow.Author.Rules.{rules}
 use Rattle.state_fits.proofs.fits.Goals as goal
 
 pub returns : goal.returns

@@ -1,4 +1,3 @@
-use borrow.Author.Rules.{rules}
 use Rattle.state_fits.proofs.is_idle.Goals as goal
 
 pub returns : goal.returns

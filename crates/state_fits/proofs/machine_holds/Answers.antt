@@ -1,5 +1,4 @@
 use Rattle.plan.specs.File.{task_of}
-use borrow.Author.Rules.{rules}
 use Rattle.state_fits.proofs.machine_holds.Goals as goal
 
 pub returns : goal.returns

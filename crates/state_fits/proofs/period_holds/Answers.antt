@@ -1,6 +1,5 @@
 use borrow.Author.Tests.{eq-eqb, ne_eqb, le-leb, lt-leb}
 use Rattle.plan.specs.File.{task_of}
-use borrow.Author.Rules.{rules}
 use Rattle.state_fits.proofs.period_holds.Goals as goal
 
 pub returns-then-period-eq0 : goal.returns-then-period-eq0

@@ -1,12 +1,10 @@
 use Prim.Native.Nat.{◌-◌}
-use mathlib.Core.Path.{◌≡◌, sym}
+use mathlib.Core.Path.{◌≡◌}
 use mathlib.Core.Bool.{◌&&◌}
 use Rattle.limits.specs.Limits.{max_tasks}
 use Rattle.lists.specs.Lists.{tab, all}
-use Rattle.lists.proofs.Laws.{all_more, all_done}
 use Rattle.state.specs.State.{state_at}
 use Rattle.state.specs.Fits.{is_idle}
-use borrow.Author.Rules.{rules}
 use Rattle.state_fits.proofs.rest_idle.Given as goal
 
 abbrev pub invariant-loop-i : goal.invariant-loop-i

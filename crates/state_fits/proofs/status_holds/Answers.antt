@@ -1,4 +1,3 @@
-use borrow.Author.Rules.{rules}
 use Rattle.state_fits.proofs.status_holds.Goals as goal
 
 pub returns-in-READY : goal.returns-in-READY

@@ -1,16 +1,10 @@
 use Prim.Native.Nat.{◌-◌, ◌<◌}
 use mathlib.Core.Path.{◌≡◌, sym}
 use native.Mathlib.Omega.{arith}
-use mathlib.Core.Bool.{◌&&◌}
-use Rattle.limits.specs.Limits.{max_tasks}
-use Rattle.lists.specs.Lists.{tab, all}
 use Rattle.lists.proofs.Laws.{all_more, all_done}
-use Rattle.state.specs.State.{state_at}
 use Rattle.words.specs.Words.{words_of}
-use Rattle.plan.specs.File.{task_count, plan_of}
-use Rattle.state.specs.Fits.{task_rule}
+use Rattle.plan.specs.File.{task_count}
 use Rattle.state_fits.proofs.Tasks.{in_plan}
-use borrow.Author.Rules.{rules}
 use Rattle.state_fits.proofs.tasks_fit.Goals as goal
 
 pub loop-i-init : goal.loop-i-init

@@ -1,11 +1,5 @@
-use mathlib.Core.Path.{◌≡◌}
-use Prim.Native.Nat.{ℕ, ◌-◌}
-use mathlib.Core.Bool.{◌&&◌}
-use lib.ListN.{length, drop}
-use lib.Dec.{eqb}
-use Rattle.lists.specs.Lists.{all}
+use Prim.Native.Nat.{ℕ}
 use Rattle.state.proofs.Laws.{from_more, from_done}
-use borrow.Author.Rules.{rules}
 use Rattle.state_fits.proofs.zeros_from.Goals as goal
 
 pub loop-i-preserved : goal.loop-i-preserved

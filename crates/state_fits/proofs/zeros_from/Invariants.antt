@@ -1,11 +1,9 @@
 use mathlib.Core.Path.{◌≡◌}
-use Prim.Native.Nat.{ℕ, ◌-◌}
+use Prim.Native.Nat.{◌-◌}
 use mathlib.Core.Bool.{◌&&◌}
 use lib.ListN.{length, drop}
 use lib.Dec.{eqb}
 use Rattle.lists.specs.Lists.{all}
-use Rattle.state.proofs.Laws.{from_more, from_done}
-use borrow.Author.Rules.{rules}
 use Rattle.state_fits.proofs.zeros_from.Given as goal
 
 abbrev pub invariant-loop-i : goal.invariant-loop-i

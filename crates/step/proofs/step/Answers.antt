@@ -1,6 +1,5 @@
 use native.Mathlib.Omega.{arith}
 use mathlib.Core.Path.{refl, ◌∙◌}
-use borrow.Author.Rules.{rules}
 use Rattle.step.specs.Step.{step_called}
 use Rattle.step.proofs.Laws.{three_over, three_end}
 use Rattle.step.proofs.step.Goals as goal
@@ -27,10 +26,13 @@ returns c = let e₁ = c.deadlines-written.ensures.does c.args.latched.now in
     let set = c.set_signals.ensures in
     let n₁ = c.deadlines-written.ensures.near in
     let n₂ = c.releases-released.ensures.near in
-    let n₃ = c.run_urgent-at.ensures.near in record { stepped = record {
+    let n₃ = c.run_urgent-at.ensures.near in record {
+      stepped = record {
         arrays = rw (← same, ← last, ← set, ← e₁.arrays, ← e₂.arrays) e₃.arrays;
         trace = rw (← same, ← last, ← set, ← e₁.arrays, ← e₂.arrays, three_over, ← e₁.trace, ← e₁.ends, ← e₂.trace, ← e₂.ends) e₃.trace;
         tick = refl;
         place = last;
         word = rw (← same, ← last, ← set, ← e₁.arrays, ← e₂.arrays, three_end, ← e₁.ends, ← e₂.ends) e₃.ends;
-      }; near = omega arith }
+      };
+      near = omega arith;
+    }

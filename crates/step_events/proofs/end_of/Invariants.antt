@@ -1,11 +1,7 @@
 use Prim.Native.Nat.{◌≤◌, ◌-◌}
-use mathlib.Core.Path.{◌≡◌, refl}
-use native.Mathlib.Omega.{arith}
-use borrow.Author.Rules.{rules}
-use borrow.Author.Tests.{eq-eqb, ne_eqb}
+use mathlib.Core.Path.{◌≡◌}
 use Rattle.words.specs.Words.{words_of}
 use Rattle.steps.specs.Flat.{end_from}
-use Rattle.step_events.proofs.Laws.{end_more, end_done}
 use Rattle.step_events.proofs.end_of.Given as goal
 
 abbrev pub invariant-loop-p : goal.invariant-loop-p

@@ -1,10 +1,4 @@
-use Prim.Native.Nat.{◌≤◌, ◌-◌}
-use mathlib.Core.Path.{◌≡◌, refl, ◌∙◌}
-use lib.ListN.{length}
-use borrow.Author.Rules.{rules}
-use Rattle.words.specs.Words.{words_of}
-use Rattle.tick.specs.Tick.{set_now}
-use Rattle.steps.specs.Flat.{between}
+use mathlib.Core.Path.{refl, ◌∙◌}
 use Rattle.step_events.proofs.Laws.{set_more, set_done}
 use Rattle.step_events.proofs.set_signals.Goals as goal
 

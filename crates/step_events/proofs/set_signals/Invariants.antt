@@ -1,11 +1,9 @@
-use Prim.Native.Nat.{◌≤◌, ◌-◌}
-use mathlib.Core.Path.{◌≡◌, refl, ◌∙◌}
+use Prim.Native.Nat.{◌-◌}
+use mathlib.Core.Path.{◌≡◌}
 use lib.ListN.{length}
-use borrow.Author.Rules.{rules}
 use Rattle.words.specs.Words.{words_of}
 use Rattle.tick.specs.Tick.{set_now}
 use Rattle.steps.specs.Flat.{between}
-use Rattle.step_events.proofs.Laws.{set_more, set_done}
 use Rattle.step_events.proofs.set_signals.Given as goal
 
 abbrev pub invariant-loop-p : goal.invariant-loop-p

@@ -1,12 +1,7 @@
 use Prim.Native.Nat.{◌≤◌, ◌+◌, ◌*◌, ◌-◌}
-use native.Mathlib.Nat.{sub-zero}
-use native.Mathlib.Omega.{arith}
-use mathlib.Core.Path.{◌≡◌, refl}
+use mathlib.Core.Path.{◌≡◌}
 use lib.ListN.{length, replicate}
-use borrow.Author.Rules.{rules}
 use Rattle.trace.specs.Trace.{over, entry, ignored_kind}
-use Rattle.trace.proofs.Laws.{length-put}
-use Rattle.step_releases.proofs.Laws.{copies_more, copies_done}
 use Rattle.step_releases.proofs.ignore.Given as goal
 
 abbrev pub invariant-loop-k : goal.invariant-loop-k

@@ -1,10 +1,7 @@
-use Prim.Native.Nat.{◌≤◌, ◌-◌}
 use native.Mathlib.Nat.{sub-zero}
-use mathlib.Core.Path.{◌≡◌, refl, ◌∙◌}
-use lib.ListN.{length, length-set}
+use mathlib.Core.Path.{refl}
+use lib.ListN.{length-set}
 use borrow.Author.Rules.{rules}
-use Rattle.limits.specs.Limits.{max_ports}
-use Rattle.steps.specs.Flat.{latch}
 use Rattle.step_releases.proofs.Laws.{latch-more, latch-done}
 use Rattle.step_releases.proofs.latch_row.Goals as goal
 

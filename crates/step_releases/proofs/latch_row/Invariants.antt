@@ -1,11 +1,8 @@
 use Prim.Native.Nat.{◌≤◌, ◌-◌}
-use native.Mathlib.Nat.{sub-zero}
-use mathlib.Core.Path.{◌≡◌, refl, ◌∙◌}
-use lib.ListN.{length, length-set}
-use borrow.Author.Rules.{rules}
+use mathlib.Core.Path.{◌≡◌}
+use lib.ListN.{length}
 use Rattle.limits.specs.Limits.{max_ports}
 use Rattle.steps.specs.Flat.{latch}
-use Rattle.step_releases.proofs.Laws.{latch-more, latch-done}
 use Rattle.step_releases.proofs.latch_row.Given as goal
 
 abbrev pub invariant-loop-p : goal.invariant-loop-p

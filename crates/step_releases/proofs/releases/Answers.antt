@@ -1,18 +1,12 @@
-use Prim.Native.Nat.{ℕ, ◌≤◌, ◌<◌, ◌+◌, ◌*◌, ◌-◌, ◌^◌}
+use Prim.Native.Nat.{◌+◌}
 use native.Mathlib.Omega.{arith}
-use mathlib.Core.Path.{◌≡◌, refl}
-use mathlib.Core.Bool.{true}
-use mathlib.Core.List.{List}
-use lib.ListN.{length}
+use mathlib.Core.Path.{refl}
 use borrow.Author.Rules.{rules}
-use Rattle.marks.specs.Marks.{has}
 use Rattle.turns.proofs.Laws.{next_from, next_below, next_at}
 use Rattle.words.specs.Words.{words_of}
-use Rattle.events.specs.Events.{Event}
 use Rattle.trace.specs.Trace.{over}
-use Rattle.arrays.specs.Arrays.{Arrays}
 use Rattle.steps.specs.Flat.{between, grant, called}
-use Rattle.steps.proofs.Laws.{Sofar, sofar_none, rows_done}
+use Rattle.steps.proofs.Laws.{sofar_none, rows_done}
 use Rattle.steps.proofs.Called.{sofar_next, sofar_called}
 use Rattle.step_releases.proofs.releases.Invariants.{arrays}
 use Rattle.step_releases.proofs.releases.Goals as goal
@@ -70,7 +64,10 @@ shape_of-trace c = c.loop-j.invariant.trace_long
 
 pub returns : goal.returns
 unfolding over
-returns c = record { does = λ held.
+returns c = record {
+  does = λ held.
       let s = c.loop-j.invariant.sofar held in
       let d = rows_done (called c.args.calls (grant c.args.moment.t c.args.rows.now (between (words_of c.args.events.now) c.args.moment.first c.args.moment.last))) c.args.count c.loop-j.j (arrays c.args.signals.now c.loop-j.tasks c.loop-j.latched held) c.loop-j-test.false in
-      record { arrays = rw (s.arrays, d); trace = rw (s.trace, d); ends = rw (s.ends, d) (omega arith) }; near = let r = c.loop-j.invariant.room in let m = c.loop-j.invariant.most in omega arith }
+      record { arrays = rw (s.arrays, d); trace = rw (s.trace, d); ends = rw (s.ends, d) (omega arith) };
+  near = let r = c.loop-j.invariant.room in let m = c.loop-j.invariant.most in omega arith;
+}

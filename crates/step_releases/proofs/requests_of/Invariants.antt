@@ -1,12 +1,8 @@
 use Prim.Native.Nat.{◌≤◌, ◌+◌, ◌-◌}
-use mathlib.Core.Path.{◌≡◌, refl}
-use native.Mathlib.Omega.{arith}
-use native.Mathlib.Nat.{zero-add}
-use borrow.Author.Rules.{rules}
+use mathlib.Core.Path.{◌≡◌}
 use Rattle.words.specs.Words.{words_of}
 use Rattle.tick.specs.Turns.{requests}
 use Rattle.steps.specs.Flat.{between}
-use Rattle.step_releases.proofs.Laws.{asks_more, asks_done}
 use Rattle.step_releases.proofs.requests_of.Given as goal
 
 abbrev pub invariant-loop-p : goal.invariant-loop-p

@@ -1,5 +1,4 @@
 use native.Mathlib.Nat.{add-zero}
-use borrow.Author.Rules.{rules}
 use Rattle.step_releases.proofs.start_row.Goals as goal
 
 pub returns : goal.returns

@@ -1,4 +1,3 @@
-use borrow.Author.Rules.{rules}
 use Rattle.step_running.proofs.Laws.{finished-is}
 use Rattle.step_running.proofs.finish_task.Goals as goal
 

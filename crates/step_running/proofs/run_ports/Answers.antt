@@ -1,4 +1,3 @@
-use borrow.Author.Rules.{rules}
 use Rattle.step_running.proofs.Laws.{ran}
 use Rattle.step_running.proofs.run_ports.Goals as goal
 

@@ -3,7 +3,6 @@ use mathlib.Core.Path.{refl}
 use borrow.Author.Tests.{lt-ltb, le-ltb}
 use Rattle.trace.specs.Trace.{over}
 use Rattle.steps.specs.Flat.{runs_flat}
-use borrow.Author.Rules.{rules}
 use Rattle.step_running.proofs.run_urgent.Goals as goal
 
 pub work_row-requires : goal.work_row-requires

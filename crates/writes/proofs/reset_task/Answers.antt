@@ -1,6 +1,4 @@
-use Prim.Native.Nat.{◌+◌, ◌*◌}
 use native.Mathlib.Nat.{add-zero}
-use borrow.Author.Rules.{rules}
 use Rattle.writes.proofs.reset_task.Goals as goal
 
 pub returns : goal.returns

@@ -1,18 +1,11 @@
-use Prim.Native.Nat.{ℕ, ◌≤◌, ◌<◌, ◌+◌, ◌*◌, ◌-◌}
 use native.Mathlib.Nat.{sub-zero}
 use native.Mathlib.Omega.{arith}
-use mathlib.Core.Path.{◌≡◌, refl, sym, ap, ◌∙◌}
-use mathlib.Core.List.{List}
-use lib.ListN.{length, get_or, length-set}
+use mathlib.Core.Path.{refl}
+use lib.ListN.{length-set}
 use borrow.Author.Rules.{rules}
-use Rattle.lists.specs.Lists.{tab}
 use Rattle.lists.proofs.Laws.{length-tab}
 use Rattle.trace.specs.Trace.{over}
 use Rattle.trace.proofs.Laws.{length-put}
-use Rattle.tick.specs.Turns.{Write}
-use Rattle.tick.specs.Tick.{write_all}
-use Rattle.arrays.specs.Arrays.{row_field}
-use Rattle.steps.specs.Flat.{task_of_row, row_writes, write_entries}
 use Rattle.steps.proofs.Laws.{write_more, write_done, entries_more, entries_done, writes_length}
 use Rattle.writes.proofs.write_row.Goals as goal
 
@@ -41,9 +34,12 @@ pub returns : goal.returns
 unfolding over
 returns c = let s = c.loop-p.invariant in
     let e = s.place in
-    let m = s.most in record { wrote = rw (← c.row_field-count.ensures)
+    let m = s.most in record {
+      wrote = rw (← c.row_field-count.ensures)
           (record {
             signals = rw (s.writes, write_done _ _ _ _ c.loop-p-test.false);
             trace = rw (s.traced, entries_done _ _ _ _ _ c.loop-p-test.false);
             ends = rw (writes_length, length-tab) (omega arith);
-          }); near = omega arith }
+          });
+      near = omega arith;
+    }

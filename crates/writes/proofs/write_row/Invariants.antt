@@ -1,24 +1,19 @@
-use Prim.Native.Nat.{ℕ, ◌≤◌, ◌<◌, ◌+◌, ◌*◌, ◌-◌}
-use native.Mathlib.Nat.{sub-zero}
-use native.Mathlib.Omega.{arith}
-use mathlib.Core.Path.{◌≡◌, refl, sym, ap, ◌∙◌}
+use Prim.Native.Nat.{ℕ, ◌≤◌, ◌+◌, ◌*◌, ◌-◌}
+use mathlib.Core.Path.{◌≡◌}
 use mathlib.Core.List.{List}
-use lib.ListN.{length, get_or, length-set}
-use borrow.Author.Rules.{rules}
+use lib.ListN.{length, get_or}
 use Rattle.lists.specs.Lists.{tab}
-use Rattle.lists.proofs.Laws.{length-tab}
 use Rattle.trace.specs.Trace.{over}
-use Rattle.trace.proofs.Laws.{length-put}
 use Rattle.tick.specs.Turns.{Write}
 use Rattle.tick.specs.Tick.{write_all}
 use Rattle.arrays.specs.Arrays.{row_field}
-use Rattle.steps.specs.Flat.{task_of_row, row_writes, write_entries}
-use Rattle.steps.proofs.Laws.{write_more, write_done, entries_more, entries_done, writes_length}
+use Rattle.steps.specs.Flat.{task_of_row, write_entries}
 use Rattle.writes.proofs.write_row.Given as goal
 
 -- write p of a row
 abbrev pub write_at : List ℕ → ℕ → List ℕ → ℕ → Write
 write_at rows row held p = record { signal = row_field rows row (24 + p); value = get_or held (task_of_row rows row * 8 + p) 0 }
+
 -- p of the writes are done, those from p on come to what all come to from the start
 pub record Sofar (rows : List ℕ) (row t : ℕ) (held signals₀ trace₀ : List ℕ) (from count : ℕ) (signals trace : List ℕ) (at p : ℕ) : Type 0 where
   pub most : p ≤ count
