@@ -145,7 +145,7 @@ fn turn(
     requires ready { Ready count (event_count events.now) clock }
     requires sized { Sized (record { signals = signals.now; tasks = tasks.old; latched = latched.old; held = held.old }) }
     requires most_is { (most ≡ 2 * rows_most rows.now count 0) × (most ≤ 2 ^ 38) }
-    requires at_inside { (clock.at ≤ length trace.old) × (0 < left) × (clock.tick + left < 2 ^ 31) }
+    requires bounds { (clock.at ≤ length trace.old) × (0 < left) × (clock.tick + left < 2 ^ 31) }
     requires watched { Watched rows.now count tasks.old clock.tick wakes.old }
     requires whole_bodies { WholeBodies plan.now rows.now count }
     ensures turned { Turned (given plan.now rows.now count events.now) left clock

@@ -16,7 +16,7 @@ loop-done-init c = (
 )
 
 pub turn-one-requires : goal.turn-one-requires
-turn-one-requires c = record { ready = kept_ready _ _ _ _ _ _ _ _ _ c.loop-done.invariant.0 _ c.requires.asked c.loop-done-test.true; sized = c.loop-done.invariant.0.sizes; most_is = (c.most_entries-most.ensures.value, c.most_entries-most.ensures.small); at_inside = kept_asks _ _ _ _ _ _ _ _ _ c.loop-done.invariant.0 _ c.requires.asked c.loop-done-test.true; watched = c.loop-done.invariant.1; whole_bodies = c.requires.whole_bodies }
+turn-one-requires c = record { ready = kept_ready _ _ _ _ _ _ _ _ _ c.loop-done.invariant.0 _ c.requires.asked c.loop-done-test.true; sized = c.loop-done.invariant.0.sizes; most_is = (c.most_entries-most.ensures.value, c.most_entries-most.ensures.small); bounds = kept_asks _ _ _ _ _ _ _ _ _ c.loop-done.invariant.0 _ c.requires.asked c.loop-done-test.true; watched = c.loop-done.invariant.1; whole_bodies = c.requires.whole_bodies }
 
 pub overflow_add-total : goal.overflow_add-total
 overflow_add-total c = let m = c.turn-one.ensures.turned.most in omega arith
