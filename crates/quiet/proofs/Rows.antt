@@ -83,12 +83,18 @@ module _ (rows tasks : List ℕ) (j t : ℕ) where
 
   -- it is in flight, and its deadline is not now
   pub flies_quiet : waits ≡ false → t < field tasks (task_of_row rows j) 2 + row_field rows j 2 → RowQuiet rows tasks j t
-  flies_quiet h b = record { deadline = not_now t status (field tasks (task_of_row rows j) 2) (row_field rows j 2) b; call = asked_quiet (eqb (row_field rows j 1) 0) (not_open status (is_due t (row_field rows j 4) (row_field rows j 1)) (eqb (row_field rows j 2) 0) h) }
+  flies_quiet h b = record {
+    deadline = not_now t status (field tasks (task_of_row rows j) 2) (row_field rows j 2) b;
+    call = asked_quiet (eqb (row_field rows j 1) 0) (not_open status (is_due t (row_field rows j 4) (row_field rows j 1)) (eqb (row_field rows j 2) 0) h);
+  }
 
   -- it is in ERROR
   pub error-quiet : waits ≡ false → (eqb status active || eqb status finished) ≡ false → RowQuiet rows tasks j t
   error-quiet h e =
-      record { deadline = ap (λ (b : Bool). ends_now t (field tasks (task_of_row rows j) 2) (row_field rows j 2) && b) (turned (eqb status active) (eqb status finished) e) ∙ and_none (ends_now t (field tasks (task_of_row rows j) 2) (row_field rows j 2)); call = asked_quiet (eqb (row_field rows j 1) 0) (not_open status (is_due t (row_field rows j 4) (row_field rows j 1)) (eqb (row_field rows j 2) 0) h) }
+      record {
+        deadline = ap (λ (b : Bool). ends_now t (field tasks (task_of_row rows j) 2) (row_field rows j 2) && b) (turned (eqb status active) (eqb status finished) e) ∙ and_none (ends_now t (field tasks (task_of_row rows j) 2) (row_field rows j 2));
+        call = asked_quiet (eqb (row_field rows j 1) 0) (not_open status (is_due t (row_field rows j 4) (row_field rows j 1)) (eqb (row_field rows j 2) 0) h);
+      }
     where
       turned : (a b : Bool) → (a || b) ≡ false → (b || a) ≡ false
       turned true b f = absurd (true≢false f)

@@ -44,7 +44,7 @@ fn tick_once(
     trace: &mut [u32],
 ) -> Ran
     requires ready { Ready count (event_count events.now) clock }
-    requires sized { Sized (record { signals = signals.now; tasks = tasks.old; latched = latched.old; held = held.old }) }
+    requires sized { Sized (record { signals = signals.old; tasks = tasks.old; latched = latched.old; held = held.old }) }
     requires most_is { (most ≡ 2 * rows_most rows.now count 0) × (most ≤ 2 ^ 38) }
     requires at_inside { clock.at ≤ length trace.old }
     requires watched { Watched rows.now count tasks.old clock.tick wakes.old }
@@ -52,8 +52,8 @@ fn tick_once(
     requires last_is { last ≡ end_from (words_of events.now) clock.tick (event_count events.now - clock.place) clock.place }
     requires others_later { OthersLater calls rows.now count (between (words_of events.now) clock.place last) clock.tick wakes.old }
     ensures turned { (left : ℕ) → Turned (given plan.now rows.now count events.now) (suc left) clock
-        (record { signals = signals.entry.now; tasks = tasks.old; latched = latched.old; held = held.old }) trace.old result
-        (record { signals = signals.exit.now; tasks = tasks.new; latched = latched.new; held = held.new }) trace.new }
+        (record { signals = signals.old; tasks = tasks.old; latched = latched.old; held = held.old }) trace.old result
+        (record { signals = signals.new; tasks = tasks.new; latched = latched.new; held = held.new }) trace.new }
     ensures moves { result.ticks ≡ cond result.full 0 1 }
     ensures watched { Watched rows.now count tasks.new result.clock.tick wakes.new }
 {
@@ -143,14 +143,14 @@ fn turn(
     trace: &mut [u32],
 ) -> Ran
     requires ready { Ready count (event_count events.now) clock }
-    requires sized { Sized (record { signals = signals.now; tasks = tasks.old; latched = latched.old; held = held.old }) }
+    requires sized { Sized (record { signals = signals.old; tasks = tasks.old; latched = latched.old; held = held.old }) }
     requires most_is { (most ≡ 2 * rows_most rows.now count 0) × (most ≤ 2 ^ 38) }
     requires bounds { (clock.at ≤ length trace.old) × (0 < left) × (clock.tick + left < 2 ^ 31) }
     requires watched { Watched rows.now count tasks.old clock.tick wakes.old }
     requires whole_bodies { WholeBodies plan.now rows.now count }
     ensures turned { Turned (given plan.now rows.now count events.now) left clock
-        (record { signals = signals.entry.now; tasks = tasks.old; latched = latched.old; held = held.old }) trace.old result
-        (record { signals = signals.exit.now; tasks = tasks.new; latched = latched.new; held = held.new }) trace.new }
+        (record { signals = signals.old; tasks = tasks.old; latched = latched.old; held = held.old }) trace.old result
+        (record { signals = signals.new; tasks = tasks.new; latched = latched.new; held = held.new }) trace.new }
     ensures moves { result.full ≡ false → 0 < result.ticks }
     ensures watched { Watched rows.now count tasks.new result.clock.tick wakes.new }
 {
@@ -186,12 +186,12 @@ pub fn run_ticks(
     trace: &mut [u32],
 ) -> Ran
     requires asked { Asked count (event_count events.now) asked clock }
-    requires sized { Sized (record { signals = signals.now; tasks = tasks.old; latched = latched.old; held = held.old }) }
+    requires sized { Sized (record { signals = signals.old; tasks = tasks.old; latched = latched.old; held = held.old }) }
     requires distinct { Distinct rows.now count }
     requires whole_bodies { WholeBodies plan.now rows.now count }
-    ensures { Ends clock result (record { signals = signals.exit.now; tasks = tasks.new; latched = latched.new; held = held.new }) trace.old trace.new
+    ensures { Ends clock result (record { signals = signals.new; tasks = tasks.new; latched = latched.new; held = held.new }) trace.old trace.new
         (run_flat (given plan.now rows.now count events.now) (length trace.old) asked clock.tick clock.place
-        (record { signals = signals.entry.now; tasks = tasks.old; latched = latched.old; held = held.old })) }
+        (record { signals = signals.old; tasks = tasks.old; latched = latched.old; held = held.old })) }
 {
     let most = room::most_entries(rows, count);
     let mut wakes = quiet::no_wakes(count);

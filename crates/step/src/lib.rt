@@ -36,12 +36,12 @@ pub fn step(
 ) -> Clock
     requires ready { Ready count (event_count events.now) clock }
     requires last_is { last ≡ place_after (given plan.now rows.now count events.now) clock.tick clock.place }
-    requires called_only { step_called calls (given plan.now rows.now count events.now) clock.tick clock.place (record { signals = signals.now; tasks = tasks.old; latched = latched.old; held = held.old })
-        ≡ step_flat (given plan.now rows.now count events.now) clock.tick clock.place (record { signals = signals.now; tasks = tasks.old; latched = latched.old; held = held.old }) }
+    requires called_only { step_called calls (given plan.now rows.now count events.now) clock.tick clock.place (record { signals = signals.old; tasks = tasks.old; latched = latched.old; held = held.old })
+        ≡ step_flat (given plan.now rows.now count events.now) clock.tick clock.place (record { signals = signals.old; tasks = tasks.old; latched = latched.old; held = held.old }) }
     requires whole_bodies { WholeBodies plan.now rows.now count }
-    ensures stepped { Stepped clock result (record { signals = signals.exit.now; tasks = tasks.new; latched = latched.new; held = held.new }) trace.old trace.new
+    ensures stepped { Stepped clock result (record { signals = signals.new; tasks = tasks.new; latched = latched.new; held = held.new }) trace.old trace.new
         (given plan.now rows.now count events.now)
-        (record { signals = signals.entry.now; tasks = tasks.old; latched = latched.old; held = held.old }) }
+        (record { signals = signals.old; tasks = tasks.old; latched = latched.old; held = held.old }) }
     ensures near { result.at ≤ clock.at + 2 ^ 41 }
 {
     let t = clock.tick;

@@ -30,8 +30,8 @@ fn lapse_row(
     from: usize,
 ) -> usize
     requires { from < 2 ^ 63 }
-    ensures does { (latched : List ℕ) → Does (record { signals = signals.exit.now; tasks = tasks.new; latched = latched; held = held.now }) trace.old trace.new from result
-        (lapse t rows.now row (record { signals = signals.entry.now; tasks = tasks.old; latched = latched; held = held.now })) }
+    ensures does { (latched : List ℕ) → Does (record { signals = signals.new; tasks = tasks.new; latched = latched; held = held.now }) trace.old trace.new from result
+        (lapse t rows.now row (record { signals = signals.old; tasks = tasks.old; latched = latched; held = held.now })) }
     ensures near { result ≤ from + 2 ^ 35 }
 {
     let task = row_field(rows, row, arrays::TASK);
@@ -76,8 +76,8 @@ pub fn deadlines(
     from: usize,
 ) -> usize
     requires { (count ≤ max_tasks) × (from < 2 ^ 62 + 2 ^ 42) }
-    ensures does { (latched : List ℕ) → Does (record { signals = signals.exit.now; tasks = tasks.new; latched = latched; held = held.now }) trace.old trace.new from result
-        (each_row (called calls (lapse t rows.now)) count 0 (record { signals = signals.entry.now; tasks = tasks.old; latched = latched; held = held.now })) }
+    ensures does { (latched : List ℕ) → Does (record { signals = signals.new; tasks = tasks.new; latched = latched; held = held.now }) trace.old trace.new from result
+        (each_row (called calls (lapse t rows.now)) count 0 (record { signals = signals.old; tasks = tasks.old; latched = latched; held = held.now })) }
     ensures near { result ≤ from + 2 ^ 39 }
 {
     let mut at = from;

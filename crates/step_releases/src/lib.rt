@@ -154,8 +154,8 @@ fn release_row(
     from: usize,
 ) -> usize
     requires { (0 < asked) × (from < 2 ^ 62 + 2 ^ 43) }
-    ensures does { (held : List ℕ) → Does (record { signals = signals.entry.now; tasks = tasks.new; latched = latched.new; held = held }) trace.old trace.new from result
-        (answer_row t rows.now row (record { signals = signals.entry.now; tasks = tasks.old; latched = latched.old; held = held }) (released (asked - 1))) }
+    ensures does { (held : List ℕ) → Does (record { signals = signals.now; tasks = tasks.new; latched = latched.new; held = held }) trace.old trace.new from result
+        (answer_row t rows.now row (record { signals = signals.now; tasks = tasks.old; latched = latched.old; held = held }) (released (asked - 1))) }
     ensures near { result ≤ from + 2 ^ 35 }
 {
     let task = row_field(rows, row, arrays::TASK);
@@ -194,8 +194,8 @@ fn grant_row(
     from: usize,
 ) -> usize
     requires { from < 2 ^ 62 + 2 ^ 43 }
-    ensures does { (held : List ℕ) → Does (record { signals = signals.entry.now; tasks = tasks.new; latched = latched.new; held = held }) trace.old trace.new from result
-        (grant moment.t rows.now (between (words_of events.now) moment.first moment.last) row (record { signals = signals.entry.now; tasks = tasks.old; latched = latched.old; held = held })) }
+    ensures does { (held : List ℕ) → Does (record { signals = signals.now; tasks = tasks.new; latched = latched.new; held = held }) trace.old trace.new from result
+        (grant moment.t rows.now (between (words_of events.now) moment.first moment.last) row (record { signals = signals.now; tasks = tasks.old; latched = latched.old; held = held })) }
     ensures near { result ≤ from + 2 ^ 35 }
 {
     let t = moment.t;
@@ -245,8 +245,8 @@ pub fn releases(
     from: usize,
 ) -> usize
     requires { (count ≤ max_tasks) × (from < 2 ^ 62 + 2 ^ 42) }
-    ensures does { (held : List ℕ) → Does (record { signals = signals.entry.now; tasks = tasks.new; latched = latched.new; held = held }) trace.old trace.new from result
-        (each_row (called calls (grant moment.t rows.now (between (words_of events.now) moment.first moment.last))) count 0 (record { signals = signals.entry.now; tasks = tasks.old; latched = latched.old; held = held })) }
+    ensures does { (held : List ℕ) → Does (record { signals = signals.now; tasks = tasks.new; latched = latched.new; held = held }) trace.old trace.new from result
+        (each_row (called calls (grant moment.t rows.now (between (words_of events.now) moment.first moment.last))) count 0 (record { signals = signals.now; tasks = tasks.old; latched = latched.old; held = held })) }
     ensures near { result ≤ from + 2 ^ 39 }
 {
     let mut at = from;

@@ -71,8 +71,8 @@ fn work_row(
 ) -> usize
     requires from_bound { from < 2 ^ 63 }
     requires whole { Whole (body_part plan.now (task_of_row rows.now row)) }
-    ensures does { Does (record { signals = signals.exit.now; tasks = tasks.new; latched = latched.now; held = held.new }) trace.old trace.new from result
-        (work t (words_of plan.now) rows.now row (record { signals = signals.entry.now; tasks = tasks.old; latched = latched.now; held = held.old })) }
+    ensures does { Does (record { signals = signals.new; tasks = tasks.new; latched = latched.now; held = held.new }) trace.old trace.new from result
+        (work t (words_of plan.now) rows.now row (record { signals = signals.old; tasks = tasks.old; latched = latched.now; held = held.old })) }
     ensures near { result ≤ from + 2 ^ 35 }
 {
     let task = row_field(rows, row, arrays::TASK);
@@ -106,8 +106,8 @@ pub fn run_urgent(
 ) -> usize
     requires bounds { (count ≤ max_tasks) × (from < 2 ^ 62 + 2 ^ 42) }
     requires whole_bodies { WholeBodies plan.now rows.now count }
-    ensures does { Does (record { signals = signals.exit.now; tasks = tasks.new; latched = latched.now; held = held.new }) trace.old trace.new from result
-        (runs_flat t (words_of plan.now) rows.now count (record { signals = signals.entry.now; tasks = tasks.old; latched = latched.now; held = held.old })) }
+    ensures does { Does (record { signals = signals.new; tasks = tasks.new; latched = latched.now; held = held.new }) trace.old trace.new from result
+        (runs_flat t (words_of plan.now) rows.now count (record { signals = signals.old; tasks = tasks.old; latched = latched.now; held = held.old })) }
     ensures near { result ≤ from + 2 ^ 35 }
 {
     let row = choice::running_row(rows, count, tasks);

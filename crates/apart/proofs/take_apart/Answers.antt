@@ -24,4 +24,8 @@ pub shape_of-held : goal.shape_of-held
 shape_of-held c = c.loop-i.invariant.3.size ∙ sym c.requires.2
 
 pub returns : goal.returns
-returns c = record { tasks = stored_all _ _ _ _ _ (search rules) c.loop-i.invariant.0 c.loop-i-test.false c.loop-i.invariant.1; latched = stored_all _ _ _ _ _ (search rules) c.loop-i.invariant.0 c.loop-i-test.false c.loop-i.invariant.2; held = stored_all _ _ _ _ _ (search rules) c.loop-i.invariant.0 c.loop-i-test.false c.loop-i.invariant.3 }
+returns c = record {
+  tasks = stored_all _ _ _ _ _ (search rules) c.loop-i.invariant.0 c.loop-i-test.false c.loop-i.invariant.1;
+  latched = stored_all _ _ _ _ _ (search rules) c.loop-i.invariant.0 c.loop-i-test.false c.loop-i.invariant.2;
+  held = stored_all _ _ _ _ _ (search rules) c.loop-i.invariant.0 c.loop-i-test.false c.loop-i.invariant.3;
+}

@@ -16,7 +16,12 @@ pub run_ticks-ran-requires : goal.run_ticks-ran-requires
 run_ticks-ran-requires c = let given = c.args in
     let good = c.requires in
     let schedule = c.schedule_of-count.ensures in
-    let arrays = c.take_apart.ensures in record { asked = may_run_of given.plan.now given.events.now given.state given.asked good _ _ schedule; sized = rw (arrays.tasks, arrays.latched, arrays.held) (sizes given.plan.now given.events.now given.state given.asked good); distinct = distinct_of given.plan.now given.events.now given.state given.asked good _ _ schedule; whole_bodies = bodies_of_lem given.plan.now given.events.now given.state given.asked good _ _ schedule }
+    let arrays = c.take_apart.ensures in record {
+      asked = may_run_of given.plan.now given.events.now given.state given.asked good _ _ schedule;
+      sized = rw (arrays.tasks, arrays.latched, arrays.held) (sizes given.plan.now given.events.now given.state given.asked good);
+      distinct = distinct_of given.plan.now given.events.now given.state given.asked good _ _ schedule;
+      whole_bodies = bodies_of_lem given.plan.now given.events.now given.state given.asked good _ _ schedule;
+    }
 
 pub returns : goal.returns
 returns c = let given = c.args in

@@ -13,7 +13,9 @@ pub returns-then-status-deadline : goal.returns-then-status-deadline
 returns-then-status-deadline c = λ u l b. due-quiet _ _ _ u (rw (← c.row_field-task.ensures, ← c.row_field-deadline.ensures, ← c.task_field-status.ensures) c.if-status-deadline.true) (rw (← c.row_field-period.ensures, ← c.row_field.ensures) (c.next_due.ensures u l b))
 
 pub returns-then-status : goal.returns-then-status
-returns-then-status c = λ u l b. flies_quiet _ _ _ u (rw (← c.row_field-task.ensures, ← c.row_field-deadline.ensures, ← c.task_field-status.ensures) c.if-status-deadline.false) (rw (← c.row_field-task.ensures, ← c.row_field-deadline.ensures, ← c.task_field.ensures) (omega (arith, b, c.sum.ensures)))
+returns-then-status c = λ u l b. flies_quiet _ _ _ u
+    (rw (← c.row_field-task.ensures, ← c.row_field-deadline.ensures, ← c.task_field-status.ensures) c.if-status-deadline.false)
+    (rw (← c.row_field-task.ensures, ← c.row_field-deadline.ensures, ← c.task_field.ensures) (omega (arith, b, c.sum.ensures)))
 
 pub returns : goal.returns
 returns c = λ u l b. error-quiet _ _ _ u (rw (← c.row_field-task.ensures, ← c.row_field-deadline.ensures, ← c.task_field-status.ensures) c.if-status-deadline.false) (rw (← c.row_field-task.ensures, ← c.task_field-status.ensures) c.if-status.false)

@@ -33,13 +33,27 @@ pub returns-then-status-asked : goal.returns-then-status-asked
 returns-then-status-asked c = record {
   counts = rw (c.reset_task.ensures, c.row_field-task.ensures)
       (grant-fails _ _ _ _ _
-      (rw (call-periodic _ _ _ _ _ (λ z. c.if-status-eq-READY.false (c.task_field-status.ensures ∙ rw c.row_field-task.ensures z)) (λ z. c.if-period-eq0.false (c.row_field-period.ensures ∙ z)), ← c.count_asked-asked.ensures, ← c.row_field-task.ensures, ← c.row_field-deadline.ensures, ← c.task_field-status.ensures, c.if-status-asked.true)));
+      (rw (
+        call-periodic _ _ _ _ _ (λ z. c.if-status-eq-READY.false (c.task_field-status.ensures ∙ rw c.row_field-task.ensures z)) (λ z. c.if-period-eq0.false (c.row_field-period.ensures ∙ z)),
+        ← c.count_asked-asked.ensures,
+        ← c.row_field-task.ensures,
+        ← c.row_field-deadline.ensures,
+        ← c.task_field-status.ensures,
+        c.if-status-asked.true,
+      )));
   small = omega arith;
 }
 
 pub returns : goal.returns
 returns c = record {
   counts = grant-ignores _ _ _ _ _ _
-      (rw (call-periodic _ _ _ _ _ (λ z. c.if-status-eq-READY.false (c.task_field-status.ensures ∙ rw c.row_field-task.ensures z)) (λ z. c.if-period-eq0.false (c.row_field-period.ensures ∙ z)), ← c.count_asked-asked.ensures, ← c.row_field-task.ensures, ← c.row_field-deadline.ensures, ← c.task_field-status.ensures, c.if-status-asked.false));
+      (rw (
+        call-periodic _ _ _ _ _ (λ z. c.if-status-eq-READY.false (c.task_field-status.ensures ∙ rw c.row_field-task.ensures z)) (λ z. c.if-period-eq0.false (c.row_field-period.ensures ∙ z)),
+        ← c.count_asked-asked.ensures,
+        ← c.row_field-task.ensures,
+        ← c.row_field-deadline.ensures,
+        ← c.task_field-status.ensures,
+        c.if-status-asked.false,
+      ));
   small = omega arith;
 }

@@ -12,7 +12,17 @@ returns-then-remaining-deadline c = record {
 }
 
 pub returns-else-remaining-deadline : goal.returns-else-remaining-deadline
-returns-else-remaining-deadline c = record { counts = λ t words a e. rw (runs-length t words _ _ a _ _ e c.active_row-row.ensures, lt-ltb _ _ c.if-row-count.true, ← c.row_field-task.ensures, ← c.row_field-deadline.ensures, ← c.task_field-remaining.ensures, c.if-remaining-deadline.false); small = omega arith }
+returns-else-remaining-deadline c = record {
+  counts = λ t words a e. rw (
+    runs-length t words _ _ a _ _ e c.active_row-row.ensures,
+    lt-ltb _ _ c.if-row-count.true,
+    ← c.row_field-task.ensures,
+    ← c.row_field-deadline.ensures,
+    ← c.task_field-remaining.ensures,
+    c.if-remaining-deadline.false,
+  );
+  small = omega arith;
+}
 
 pub returns-else-row-count : goal.returns-else-row-count
 returns-else-row-count c = record { counts = λ t words a e. rw (runs-length t words _ _ a _ _ e c.active_row-row.ensures, le-ltb _ _ c.if-row-count.false); small = omega arith }

@@ -16,7 +16,14 @@ loop-done-init c = (
 )
 
 pub turn-one-requires : goal.turn-one-requires
-turn-one-requires c = record { ready = kept_ready _ _ _ _ _ _ _ _ _ c.loop-done.invariant.0 _ c.requires.asked c.loop-done-test.true; sized = c.loop-done.invariant.0.sizes; most_is = (c.most_entries-most.ensures.value, c.most_entries-most.ensures.small); bounds = kept_asks _ _ _ _ _ _ _ _ _ c.loop-done.invariant.0 _ c.requires.asked c.loop-done-test.true; watched = c.loop-done.invariant.1; whole_bodies = c.requires.whole_bodies }
+turn-one-requires c = record {
+  ready = kept_ready _ _ _ _ _ _ _ _ _ c.loop-done.invariant.0 _ c.requires.asked c.loop-done-test.true;
+  sized = c.loop-done.invariant.0.sizes;
+  most_is = (c.most_entries-most.ensures.value, c.most_entries-most.ensures.small);
+  bounds = kept_asks _ _ _ _ _ _ _ _ _ c.loop-done.invariant.0 _ c.requires.asked c.loop-done-test.true;
+  watched = c.loop-done.invariant.1;
+  whole_bodies = c.requires.whole_bodies;
+}
 
 pub overflow_add-total : goal.overflow_add-total
 overflow_add-total c = let m = c.turn-one.ensures.turned.most in omega arith
@@ -29,7 +36,12 @@ loop-done-smaller c = nearer _ _ _ c.loop-done-test.true (c.turn-one.ensures.mov
 
 pub loop-done-preserved : goal.loop-done-preserved
 loop-done-preserved c = (
-  kept_more _ _ _ _ _ _ _ _ _ c.loop-done.invariant.0 _ _ _ c.turn-one.ensures.turned c.if-one.false (record { signals = c.turn-one.auto.signals; tasks = c.turn-one.auto.tasks; latched = c.turn-one.auto.latched; held = c.turn-one.auto.held }) c.turn-one.auto.trace,
+  kept_more _ _ _ _ _ _ _ _ _ c.loop-done.invariant.0 _ _ _ c.turn-one.ensures.turned c.if-one.false (record {
+    signals = c.turn-one.auto.signals;
+    tasks = c.turn-one.auto.tasks;
+    latched = c.turn-one.auto.latched;
+    held = c.turn-one.auto.held;
+  }) c.turn-one.auto.trace,
   c.turn-one.ensures.watched,
 )
 
