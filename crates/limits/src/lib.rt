@@ -17,6 +17,13 @@ pub const ORDER: u32 = 32;
 
 pub const STATES: u32 = 16;
 
+// How many of them a state has, as the lengths of its arrays.
+pub const ALL_SIGNALS: usize = SIGNALS as usize;
+
+pub const ALL_TASKS: usize = TASKS as usize;
+
+pub const ALL_PORTS: usize = PORTS as usize;
+
 pub const TIME: u32 = 1_000_000;
 
 pub const LAST_INSTANT: u32 = 999_999;
