@@ -1,7 +1,7 @@
 -- Document 01, 'Numbers returned'.
-use Rattle.std.specs.Prelude.{ℕ, Bool, true, cond, ◌&&◌, List, [], ◌∷◌, eqb}
-use Rattle.answers.specs.declared.Answer.{Answer}
-use Rattle.answers.specs.declared.Answer.TheVariants.{Accepted, PlanSize, PlanHead, PlanContents, TaskShape, TaskTiming, TaskBody, SamePriority, SameOutput, EventSize, EventInstant, EventContent, StateUnfit, TooManyTicks, TraceFull, NoSuchTask}
+use Rattle.std.specs.Prelude.{ℕ, Bool, true, cond, ◌&&◌, List, [], ◌∷◌, eqb, ⊤, Result, Ok, Err}
+use Rattle.answers.specs.declared.Refusal.{Refusal}
+use Rattle.answers.specs.declared.Refusal.TheVariants.{PlanSize, PlanHead, PlanContents, TaskShape, TaskTiming, TaskBody, SamePriority, SameOutput, EventSize, EventInstant, EventContent, StateUnfit, TooManyTicks, TraceFull, NoSuchTask}
 
 -- "A place goes with the number: the task for 4..6, the later task of the first clash (smallest task number) for 7 and 8, the
 -- record for 10 and 11, otherwise 0."
@@ -12,24 +12,32 @@ pub record Verdict : Type 0 where
 abbrev pub verdict : ℕ → ℕ → Verdict
 verdict number place = record { number = number; place = place }
 
+-- number and place of each refusal
+abbrev pub refused : Refusal → Verdict
+refused PlanSize = verdict 1 0
+refused PlanHead = verdict 2 0
+refused PlanContents = verdict 3 0
+refused (TaskShape task) = verdict 4 task
+refused (TaskTiming task) = verdict 5 task
+refused (TaskBody task) = verdict 6 task
+refused (SamePriority task) = verdict 7 task
+refused (SameOutput task) = verdict 8 task
+refused EventSize = verdict 9 0
+refused (EventInstant record') = verdict 10 record'
+refused (EventContent record') = verdict 11 record'
+refused StateUnfit = verdict 12 0
+refused TooManyTicks = verdict 13 0
+refused TraceFull = verdict 14 0
+refused NoSuchTask = verdict 26 0
+
+-- what a call answers: accepted, or a refusal
+abbrev pub Answer : Type 0
+Answer = Result ⊤ Refusal
+
 -- number and place of each answer
 abbrev pub said : Answer → Verdict
-said Accepted = verdict 0 0
-said PlanSize = verdict 1 0
-said PlanHead = verdict 2 0
-said PlanContents = verdict 3 0
-said (TaskShape task) = verdict 4 task
-said (TaskTiming task) = verdict 5 task
-said (TaskBody task) = verdict 6 task
-said (SamePriority task) = verdict 7 task
-said (SameOutput task) = verdict 8 task
-said EventSize = verdict 9 0
-said (EventInstant record') = verdict 10 record'
-said (EventContent record') = verdict 11 record'
-said StateUnfit = verdict 12 0
-said TooManyTicks = verdict 13 0
-said TraceFull = verdict 14 0
-said NoSuchTask = verdict 26 0
+said (Ok _) = verdict 0 0
+said (Err refusal) = refused refusal
 
 -- ---- "Given exactly when": rules in the paper's order
 -- a rule, with the number that a call returns where it is broken, and the place

@@ -1,7 +1,6 @@
 -- Document 01, 'Numbers returned': what a verdict says of a list of rules, whatever they are, and what is proved of it.
 use Rattle.std.specs.Prelude.{◌<◌, ◌≡◌, true, false, List, [], ◌∷◌, ◌++◌, ◌↔◌}
-use Rattle.answers.specs.Answers.{Verdict, verdict, said, Rule, first_broken, all_hold}
-use Rattle.answers.specs.declared.Answer.{Answer}
+use Rattle.answers.specs.Answers.{Verdict, verdict, Answer, said, Rule, first_broken, all_hold}
 
 -- no rule of a list has number 0, which is kept for 'accepted'
 abbrev pub Numbered : List Rule → Type 0

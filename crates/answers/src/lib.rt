@@ -1,13 +1,13 @@
 // Document 01, 'Numbers returned': what a call can answer.
 #![tactic(auto)]
 
-ghost use Rattle.std.specs.Prelude.{◌≡◌, not, eqb};
-ghost use Rattle.answers.specs.Answers.{said};
+ghost use Rattle.std.specs.Prelude.{◌≡◌, eqb};
+ghost use Rattle.answers.specs.Answers.{refused, said};
 
-// One case for each number, with the place that goes with it. `said` (specs/Answers.antt) sets out number and place of each.
-#[derive(Clone, Copy)]
-pub enum Answer {
-    Accepted,
+// Why a call is refused, or ends early: one case for each number above 0, with the place that goes with it. `refused`
+// (specs/Answers.antt) sets out number and place of each.
+#[derive(Clone, Copy, PartialEq, Eq)]
+pub enum Refusal {
     PlanSize,
     PlanHead,
     PlanContents,
@@ -25,27 +25,63 @@ pub enum Answer {
     NoSuchTask,
 }
 
+// What a call answers: number 0, or why not.
+pub type Answer = Result<(), Refusal>;
+
+impl Refusal {
+    // The paper's number of a refusal.
+    pub fn number(self) -> u32
+        ensures { result ≡ (refused self).number }
+    {
+        match self {
+            Refusal::PlanSize => 1,
+            Refusal::PlanHead => 2,
+            Refusal::PlanContents => 3,
+            Refusal::TaskShape { .. } => 4,
+            Refusal::TaskTiming { .. } => 5,
+            Refusal::TaskBody { .. } => 6,
+            Refusal::SamePriority { .. } => 7,
+            Refusal::SameOutput { .. } => 8,
+            Refusal::EventSize => 9,
+            Refusal::EventInstant { .. } => 10,
+            Refusal::EventContent { .. } => 11,
+            Refusal::StateUnfit => 12,
+            Refusal::TooManyTicks => 13,
+            Refusal::TraceFull => 14,
+            Refusal::NoSuchTask => 26,
+        }
+    }
+
+    // The place that goes with it: a task, a record, or 0.
+    pub fn place(self) -> u32
+        ensures { result ≡ (refused self).place }
+    {
+        match self {
+            Refusal::TaskShape { task }
+            | Refusal::TaskTiming { task }
+            | Refusal::TaskBody { task }
+            | Refusal::SamePriority { task }
+            | Refusal::SameOutput { task } => task,
+            Refusal::EventInstant { record } | Refusal::EventContent { record } => record,
+            Refusal::PlanSize
+            | Refusal::PlanHead
+            | Refusal::PlanContents
+            | Refusal::EventSize
+            | Refusal::StateUnfit
+            | Refusal::TooManyTicks
+            | Refusal::TraceFull
+            | Refusal::NoSuchTask => 0,
+        }
+    }
+}
+
 // The paper's number of an answer.
 pub fn number(answer: Answer) -> u32
     ensures { result ≡ (said answer).number }
 {
     match answer {
-        Answer::Accepted => 0,
-        Answer::PlanSize => 1,
-        Answer::PlanHead => 2,
-        Answer::PlanContents => 3,
-        Answer::TaskShape { task: _ } => 4,
-        Answer::TaskTiming { task: _ } => 5,
-        Answer::TaskBody { task: _ } => 6,
-        Answer::SamePriority { task: _ } => 7,
-        Answer::SameOutput { task: _ } => 8,
-        Answer::EventSize => 9,
-        Answer::EventInstant { record: _ } => 10,
-        Answer::EventContent { record: _ } => 11,
-        Answer::StateUnfit => 12,
-        Answer::TooManyTicks => 13,
-        Answer::TraceFull => 14,
-        Answer::NoSuchTask => 26,
+        Ok(()) => 0,
+        Err(refusal) => refusal.number(),
     }
 }
 
@@ -54,28 +90,14 @@ pub fn place(answer: Answer) -> u32
     ensures { result ≡ (said answer).place }
 {
     match answer {
-        Answer::Accepted => 0,
-        Answer::PlanSize => 0,
-        Answer::PlanHead => 0,
-        Answer::PlanContents => 0,
-        Answer::TaskShape { task } => task,
-        Answer::TaskTiming { task } => task,
-        Answer::TaskBody { task } => task,
-        Answer::SamePriority { task } => task,
-        Answer::SameOutput { task } => task,
-        Answer::EventSize => 0,
-        Answer::EventInstant { record } => record,
-        Answer::EventContent { record } => record,
-        Answer::StateUnfit => 0,
-        Answer::TooManyTicks => 0,
-        Answer::TraceFull => 0,
-        Answer::NoSuchTask => 0,
+        Ok(()) => 0,
+        Err(refusal) => refusal.place(),
     }
 }
 
-// Whether the answer has number 0: the question that stands between one rule and the next.
+// Whether the answer has number 0.
 pub fn accepted(answer: Answer) -> bool
     ensures { result ≡ eqb (said answer).number 0 }
 {
-    number(answer) == 0
+    answer.is_ok()
 }

@@ -1,26 +1,16 @@
--- The statuses as numbers, and arrays that hold what is read off each task.
-use Prim.Native.Nat.{ℕ, zero, suc, ◌+◌, ◌*◌, ◌<◌, ◌≤◌}
-use mathlib.Core.Path.{◌≡◌, refl, ap, sym, ◌∙◌}
+-- Arrays that hold what is read off each task.
+use Prim.Native.Nat.{ℕ, suc, ◌+◌, ◌*◌, ◌<◌, ◌≤◌}
+use mathlib.Core.Path.{◌≡◌, ap, sym, ◌∙◌}
 use mathlib.Core.List.{List, [], ◌∷◌, ◌++◌, append_assoc, append-nil}
 use native.Mathlib.Omega.{arith}
 use native.Mathlib.Nat.{zero-mul, suc-mul, mul-le-mul_right}
 use native.Mathlib.Numerals.{add-one}
 use lib.ListN.{length, take, drop, length-append}
-use lib.Seq.{sets, length-sets, sets-eq, take_at, take_all, take-suc, length-take-le}
+use lib.Seq.{sets, length-sets, sets-eq, take_at, take-suc, length-take-le}
 use Rattle.limits.specs.Limits.{max_tasks}
 use Rattle.state.specs.State.{nowhere, state_at}
-use Rattle.state.specs.declared.Status.TheVariants.{ERROR}
 use Rattle.state.specs.declared.TaskState.{TaskState}
-use Rattle.steps.specs.Flat.{status_of}
 use Rattle.whole.specs.Whole.{off_each}
-
--- every number from 3 on stands for ERROR
-pub other-status : (n : ℕ) → 2 < n → status_of n ≡ ERROR
-unfolding status_of
-other-status zero h = absurd (omega arith)
-other-status (suc zero) h = absurd (omega arith)
-other-status (suc (suc zero)) h = absurd (omega arith)
-other-status (suc (suc (suc n))) h = refl
 
 -- ---- what is read off each task, stored one task after the other
 -- what is read off one task more
@@ -55,11 +45,3 @@ module _ (f : TaskState → List ℕ) (w : ℕ) (xs : List TaskState) where
             rw (add-one i, sets-eq vs out (i * w) (omega arith), take_at (take (i * w) out ++ vs) (drop (i * w + length vs) out) (suc i * w) long, h.stored, read, take-suc xs i nowhere (omega arith))
             (sym (off_last f (take i xs) (state_at xs i)));
       }
-
-  -- after the last task the array is what is read off all
-  pub stored_all : (i : ℕ) (out : List ℕ) → length xs ≡ max_tasks → i ≤ max_tasks → max_tasks ≤ i → Stored f w xs i out → out ≡ off_each f xs
-  stored_all i out count most least h =
-      let size = h.size in
-      let all : i ≡ max_tasks = omega arith in
-      let e = rw all at h.stored in
-      sym (take_all (max_tasks * w) out (omega arith)) ∙ e ∙ ap (off_each f) (take_all max_tasks xs (omega arith))

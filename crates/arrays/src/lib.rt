@@ -5,7 +5,8 @@
 ghost use Rattle.std.specs.Prelude.{◌≡◌, ◌+◌, ◌*◌, get_or, set};
 ghost use Rattle.arrays.specs.Arrays.{field, row_field};
 
-// The statuses as numbers.
+// The statuses as numbers, and not `state::Status`: the definitions of steps/specs and the theorems of whole/specs speak of arrays of
+// numbers.
 pub const READY: u32 = 0;
 
 pub const ACTIVE: u32 = 1;
@@ -26,7 +27,7 @@ pub const MACHINE: u32 = 3;
 pub const FIELDS: usize = 4;
 
 // How many latched inputs, and held outputs, a task has.
-pub const PORTS: usize = limits::PORTS as usize;
+pub const PORTS: usize = limits::ALL_PORTS;
 
 // The fields of a row of the schedule that the steps of a tick read, by the place at which each stands; the input and output
 // signals start at theirs. `plan_schedule` fills them.
@@ -54,10 +55,10 @@ pub const WIDTH: usize = 32;
 pub fn get(values: &[u32], i: usize) -> u32
     ensures { result ≡ get_or values.now i 0 }
 {
-    if i < values.len() { values[i] } else { 0 }
+    values.get(i).copied().unwrap_or(0)
 }
 
-// x at place i; nothing where there is no such place.
+// x at place i; nothing where there is no such place. By a test and not by `get_mut`, which does not say what the values end as.
 pub fn put(values: &mut [u32], i: usize, x: u32)
     ensures { values.new ≡ set values.old i x }
 {

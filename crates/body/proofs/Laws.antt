@@ -1,12 +1,12 @@
--- Laws of what is done in turn, of the test before a move, and of how many held outputs a body leaves.
-use Rattle.std.proofs.Common.{◌≡◌, ℕ, ◌+◌, ◌-◌, ◌^◌, ◌<◌, ◌≤◌, Bool, true, false, cond, ◌&&◌, leb, List, [], ◌∷◌, length, refl, arith, length-set, leb-true}
-use Rattle.limits.specs.Limits.{top_value}
+-- Laws of what is done in turn, of a test as a number, and of how many held outputs a body leaves.
+use Rattle.std.proofs.Common.{◌≡◌, ℕ, ◌+◌, ◌-◌, ◌<◌, ◌≤◌, Bool, true, false, cond, List, [], ◌∷◌, length, refl, length-set}
+use lib.Dec.{eqb}
+use Rattle.std.specs.Int.{from_bool}
 use Rattle.lists.specs.Lists.{tab, Every}
-use Rattle.lists.proofs.Laws.{tab-more, tab-done, and_right}
+use Rattle.lists.proofs.Laws.{tab-more, tab-done}
 use Rattle.lists.proofs.Tests.{every_all}
 use Rattle.plan.specs.File.{Action, Task}
-use Rattle.body.specs.Body.{in_turn, move, do_action, perform, run_actions, supervise, control, body}
-use Rattle.body.specs.declared.Result.{Result}
+use Rattle.body.specs.Body.{Result, in_turn, move, do_action, perform, run_actions, supervise, control, body}
 
 -- ---- a list that is read off by a rule, j done of n
 module _ {A B : Type 0} (step : A → B → B) (f : ℕ → A) (n j : ℕ) (hand : B) where
@@ -25,9 +25,10 @@ unfolding in_turn
 turns_keep P Q step f [] b q p = p
 turns_keep P Q step f (x ∷ xs) b q p = turns_keep P Q step f xs (step x b) q.1 (f x b q.0 p)
 
--- ---- where b can take m, the sum is a value
-pub room : (m x sum : ℕ) → (leb m x && leb sum top_value) ≡ true → sum < 2 ^ 32
-room m x sum h = let e : sum ≤ top_value = leb-true sum top_value (and_right (leb m x) (leb sum top_value) h) in omega arith
+-- ---- true is 1, false is 0
+pub truth_number : (b : Bool) → from_bool b ≡ cond b 1 0
+truth_number true = refl
+truth_number false = refl
 
 -- ---- a body leaves as many held outputs as there were
 length-cond : (b : Bool) (u v : List ℕ) → length (cond b u v) ≡ cond b (length u) (length v)
@@ -58,3 +59,12 @@ result_length false u v = refl
 pub body-length : (k : Task) (latched : List ℕ) (machine : ℕ) (held : List ℕ) → length (body k latched machine held).held ≡ length held
 unfolding body supervise control
 body-length k latched machine held = simp (result_length, length-cond, actions_length, length-set, cond_same)
+
+-- ---- whose body it is
+pub body_supervises : (k : Task) (latched : List ℕ) (machine : ℕ) (held : List ℕ) → k.kind ≡ 1 → body k latched machine held ≡ supervise k latched machine held
+unfolding body
+body_supervises k latched machine held e = rw e
+
+pub body_controls : (k : Task) (latched : List ℕ) (machine : ℕ) (held : List ℕ) → eqb k.kind 1 ≡ false → body k latched machine held ≡ control k latched machine held
+unfolding body
+body_controls k latched machine held e = rw e

@@ -3,7 +3,11 @@ use Rattle.std.specs.Prelude.{ℕ, ◌+◌, ◌-◌, ◌%◌, Bool, cond, not, �
 use Rattle.std.proofs.Math.Option.{Option, none, some}
 use Rattle.limits.specs.Limits.{top_value}
 use Rattle.plan.specs.File.{Transition, Action, Task}
-use Rattle.body.specs.declared.Result.{Result}
+
+-- what a body leaves: the machine state and the held outputs
+pub record Result : Type 0 where
+  pub machine : ℕ
+  pub held : List ℕ
 
 -- a latched input by its position
 abbrev pub input : List ℕ → ℕ → ℕ
@@ -76,7 +80,6 @@ abbrev pub run_if : Bool → List ℕ → ℕ → List Action → List ℕ → L
 run_if updated latched state actions held = cond updated (run_actions latched state actions held) held
 
 -- ---- the two kinds of task
--- what a body leaves: the machine state and the held outputs
 abbrev pub leaves : ℕ → List ℕ → Result
 leaves machine held = record { machine = machine; held = held }
 

@@ -13,6 +13,7 @@ use arrays::{row_field, task_field};
 use urgent::TaskRecord;
 
 // The record of the task of a row: rows stand in order of priority, so the row is its rank.
+#[tactic(auto, unfolding(crate::specs::Records::record_of))]
 fn record_of(rows: &[u32], row: u32, tasks: &[u32]) -> TaskRecord
     ensures { result ≡ record_of rows.now tasks.now row }
 {
@@ -24,6 +25,7 @@ fn record_of(rows: &[u32], row: u32, tasks: &[u32]) -> TaskRecord
 }
 
 // The least rank of the records of a row and the next one that are ACTIVE.
+#[tactic(auto, unfolding(lists::specs::Lists::tab))]
 fn least_of_pair(rows: &[u32], row: u32, tasks: &[u32]) -> u32
     requires { row < max_tasks }
     ensures { result ≡ least_rank (tab (record_of rows.now tasks.now) row pair_size) }
@@ -39,13 +41,11 @@ pub fn running_row(rows: &[u32], count: u32, tasks: &[u32]) -> u32
     requires { count ≤ max_tasks }
     ensures { result ≡ first_active rows.now tasks.now count 0 }
 {
-    let mut j: u32 = 0;
-    while j < count {
+    for j in (0..count).step_by(urgent::PAIR) {
         let row = least_of_pair(rows, j, tasks);
         if row < count {
             return row;
         }
-        j += urgent::PAIR;
     }
     count
 }

@@ -58,33 +58,34 @@ fn place_after(events: &[u8], place: usize) -> usize
     }
 }
 
-pub fn new<'a>(events: &'a [u8], place: usize) -> EventReader<'a>
-    ensures { (result.events ≡ events.entry) × (result.place ≡ place) }
-{
-    EventReader { events, place }
-}
+impl<'a> EventReader<'a> {
+    pub fn new(events: &'a [u8], place: usize) -> EventReader<'a>
+        ensures { (result.events ≡ events.entry) × (result.place ≡ place) }
+    {
+        EventReader { events, place }
+    }
 
-pub fn place<'a>(reader: EventReader<'a>) -> usize
-    ensures { result ≡ reader.entry.place }
-{
-    reader.place
-}
+    pub fn place(self) -> usize
+        ensures { result ≡ self.entry.place }
+    {
+        self.place
+    }
 
-// Hands out what stands where the reader does.
-pub fn next<'a>(reader: EventReader<'a>) -> Reading
-    ensures { result ≡ read_at reader.entry.events.now reader.entry.place }
-{
-    read_at(reader.events, reader.place)
-}
+    // Hands out what stands where the reader does.
+    pub fn next(self) -> Reading
+        ensures { result ≡ read_at self.entry.events.now self.entry.place }
+    {
+        read_at(self.events, self.place)
+    }
 
-// Moves on by one record, or stays at the end.
-pub fn moved<'a>(reader: EventReader<'a>) -> EventReader<'a>
-    ensures { (result.events ≡ reader.entry.events) × (result.place ≡ place_after reader.entry.events.now reader.entry.place) }
-{
-    let after = place_after(reader.events, reader.place);
-    EventReader {
-        events: reader.events,
-        place: after,
+    // Moves on by one record, or stays at the end.
+    pub fn moved(self) -> EventReader<'a>
+        ensures { (result.events ≡ self.entry.events) × (result.place ≡ place_after self.entry.events.now self.entry.place) }
+    {
+        EventReader {
+            events: self.events,
+            place: place_after(self.events, self.place),
+        }
     }
 }
 
@@ -92,5 +93,5 @@ pub fn moved<'a>(reader: EventReader<'a>) -> EventReader<'a>
 pub fn read(events: &[u8], place: usize) -> Reading
     ensures { result ≡ read_at events.now place }
 {
-    next(new(events, place))
+    EventReader::new(events, place).next()
 }

@@ -1,3 +1,4 @@
 pub mod Events
 pub mod Accepted
 pub mod Acceptance
+pub mod Kinds

@@ -6,19 +6,19 @@ ghost use Rattle.limits.specs.Limits.{max_time};
 ghost use Rattle.answers.specs.Answers.{said, verdict};
 ghost use Rattle.kernel.specs.Call.{Starts, call_verdict, Runs};
 
-use answers::Answer;
+use answers::{Answer, Refusal};
 use state::State;
 use step::Clock;
 
-// What a fresh start answers.
+// What a fresh start answers. No Result: a refusal comes with a state too, the all-zero one.
 #[derive(Clone, Copy)]
 pub struct Started {
     pub answer: Answer,
     pub state: State,
 }
 
-// What a run answers.
-#[derive(Clone, Copy)]
+// What a run answers. No Result: a refusal comes with the state that was given, a full trace with the ticks that were run.
+#[derive(Clone, Copy, PartialEq, Eq)]
 pub struct Outcome {
     pub answer: Answer,
     pub ticks: u32,
@@ -51,17 +51,14 @@ fn ticks_hold(tick: u32, asked: u32) -> bool
 fn call_answer(plan: &[u8], events: &[u8], state: State, asked: u32) -> Answer
     ensures { said result ≡ call_verdict plan.now events.now state asked }
 {
-    let answer = event_check::check(plan, events);
-    if !answers::accepted(answer) {
-        return answer;
-    }
+    event_check::check(plan, events)?;
     if !state_fits::fits(plan, events, state) {
-        return Answer::StateUnfit;
+        return Err(Refusal::StateUnfit);
     }
     if !ticks_hold(state.tick, asked) {
-        return Answer::TooManyTicks;
+        return Err(Refusal::TooManyTicks);
     }
-    Answer::Accepted
+    Ok(())
 }
 
 // How a run that no rule refused ends: all asked ticks run, or the trace full before that.
@@ -69,9 +66,9 @@ fn end_answer(full: bool) -> Answer
     ensures { said result ≡ cond full (verdict 14 0) (verdict 0 0) }
 {
     if full {
-        Answer::TraceFull
+        Err(Refusal::TraceFull)
     } else {
-        Answer::Accepted
+        Ok(())
     }
 }
 

@@ -82,7 +82,15 @@ by_sameness a b G f g = go (same_or_not a b)
     go (inl e) = rw (eq-eqb a b e) (f e)
     go (inr d) = rw (ne_eqb a b d) (g d)
 
-or-false : (p : Bool) → (p || false) ≡ p
+pub and-true : (p : Bool) → (p && true) ≡ p
+and-true true = refl
+and-true false = refl
+
+pub and-false : (p : Bool) → (p && false) ≡ false
+and-false true = refl
+and-false false = refl
+
+pub or-false : (p : Bool) → (p || false) ≡ p
 or-false true = refl
 or-false false = refl
 

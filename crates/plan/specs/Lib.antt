@@ -3,3 +3,4 @@ pub mod Rules
 pub mod Accepted
 pub mod Order
 pub mod Acceptance
+pub mod Kinds

@@ -7,6 +7,7 @@
 ghost use Rattle.std.specs.Prelude.{◌≡◌, ◌<◌, ◌≤◌, ◌^◌};
 ghost use Rattle.words.specs.Words.{words_of};
 ghost use Rattle.plan.specs.File.{start_of, length_of, body_part, outputs_at, transitions_at, actions_at};
+ghost use Rattle.plan.specs.Kinds.{IsTaskKind, IsActionKind};
 
 use words::word;
 
@@ -51,6 +52,56 @@ pub const INPUTS_AT: usize = 11;
 pub const TRANSITION_WORDS: usize = 4;
 
 pub const ACTION_WORDS: usize = 5;
+
+// "the kind is 1 or 2"; "Kind 1 (supervisor)", "Kind 2 (controller)"
+#[derive(Clone, Copy, PartialEq, Eq)]
+pub enum TaskKind {
+    Supervisor,
+    Controller,
+}
+
+// "An action's kind is 1..4"; "1 set", "2 copy", "3 add", "4 move"
+#[derive(Clone, Copy, PartialEq, Eq)]
+pub enum ActionKind {
+    Set,
+    Copy,
+    Add,
+    Move,
+}
+
+// A word of a file that is the number of no kind.
+#[derive(Clone, Copy, PartialEq, Eq)]
+pub struct NoKind;
+
+impl TryFrom<u32> for TaskKind {
+    type Error = NoKind;
+
+    ghost try_from_gives = { IsTaskKind };
+
+    fn try_from(number: u32) -> Result<TaskKind, NoKind> {
+        match number {
+            1 => Ok(TaskKind::Supervisor),
+            2 => Ok(TaskKind::Controller),
+            _ => Err(NoKind),
+        }
+    }
+}
+
+impl TryFrom<u32> for ActionKind {
+    type Error = NoKind;
+
+    ghost try_from_gives = { IsActionKind };
+
+    fn try_from(number: u32) -> Result<ActionKind, NoKind> {
+        match number {
+            1 => Ok(ActionKind::Set),
+            2 => Ok(ActionKind::Copy),
+            3 => Ok(ActionKind::Add),
+            4 => Ok(ActionKind::Move),
+            _ => Err(NoKind),
+        }
+    }
+}
 
 // The start word of an entry of the contents, 0 where the file has no such entry: entry 0 is the signals', entry i + 1 task i's.
 pub fn start_of(bytes: &[u8], entry: usize) -> u32

@@ -19,6 +19,8 @@ use Rattle.plan.specs.File.{signal_count, task_count, body_of, task_bodies, Task
 use Rattle.plan.specs.Rules.{timing_rule, body_rule, one_task, task_rules, all_new, after_all, clash_rules, priority_of, head_rules, each_task, priority_rules, output_rules, plan_rules, plan_verdict}
 use Rattle.plan.proofs.Laws.{tasks_numbered, clash_numbered, three_hold}
 use Rattle.plan_check.specs.Clash.{new_to, mark_all, clash_from, clash_number, numbers_of, clash_of}
+use Rattle.plan_check.specs.declared.Numbers.{Numbers}
+use Rattle.plan_check.specs.declared.Numbers.TheVariants.{Priority, Outputs}
 
 -- ---- marks stand for a list of numbers
 abbrev pub Agree : ℕ → List ℕ → Type 0
@@ -94,38 +96,38 @@ priority_below k e =
 outputs_below : (s : ℕ) (k : Task) → s ≤ 64 → body_rule s k ≡ true → Below k.outputs
 outputs_below s k h e = all-below s k.outputs h (simp and_iff at e).0.0.1
 
-numbers-below : (outputs : Bool) (s i : ℕ) (ws : List ℕ) → s ≤ 64 → all_hold (one_task s i ws) ≡ true → Below (numbers_of outputs (task_of ws))
-numbers-below true s i ws h e = outputs_below s (task_of ws) h (three_hold s i ws e).body
-numbers-below false s i ws h e = priority_below (task_of ws) (three_hold s i ws e).timing
+numbers-below : (numbers : Numbers) (s i : ℕ) (ws : List ℕ) → s ≤ 64 → all_hold (one_task s i ws) ≡ true → Below (numbers_of numbers (task_of ws))
+numbers-below Priority s i ws h e = priority_below (task_of ws) (three_hold s i ws e).timing
+numbers-below Outputs s i ws h e = outputs_below s (task_of ws) h (three_hold s i ws e).body
 
-pub tasks_below : (outputs : Bool) (s i : ℕ) (bodies : List (List ℕ)) → s ≤ 64 → all_hold (task_rules s i bodies) ≡ true
-    → EachBelow (map (λ b. numbers_of outputs (task_of b)) bodies)
+pub tasks_below : (numbers : Numbers) (s i : ℕ) (bodies : List (List ℕ)) → s ≤ 64 → all_hold (task_rules s i bodies) ≡ true
+    → EachBelow (map (λ b. numbers_of numbers (task_of b)) bodies)
 unfolding task_rules
-tasks_below outputs s i [] h e = tt
-tasks_below outputs s i (ws ∷ rest) h e =
+tasks_below numbers s i [] h e = tt
+tasks_below numbers s i (ws ∷ rest) h e =
     let both = sym (all_append (one_task s i ws) (task_rules s (i + 1) rest)) ∙ e in (
-      numbers-below outputs s i ws h (and_left (all_hold (one_task s i ws)) (all_hold (task_rules s (i + 1) rest)) both),
-      tasks_below outputs s (i + 1) rest h (and_right (all_hold (one_task s i ws)) (all_hold (task_rules s (i + 1) rest)) both),
+      numbers-below numbers s i ws h (and_left (all_hold (one_task s i ws)) (all_hold (task_rules s (i + 1) rest)) both),
+      tasks_below numbers s (i + 1) rest h (and_right (all_hold (one_task s i ws)) (all_hold (task_rules s (i + 1) rest)) both),
     )
 
 -- ---- the rules from 4 on, as the check goes through them
 module _ (bytes : List ℕ) where
-  abbrev found : Bool → Verdict
-  found outputs = clash_of (words_of bytes) (task_count (words_of bytes)) outputs
+  abbrev found : Numbers → Verdict
+  found numbers = clash_of (words_of bytes) (task_count (words_of bytes)) numbers
 
   head_first : first_broken (head_rules bytes ++ (each_task bytes ++ (priority_rules bytes ++ output_rules bytes)))
       ≡ or_else (first_broken (head_rules bytes)) (first_broken (each_task bytes ++ (priority_rules bytes ++ output_rules bytes)))
   head_first = broken_append (head_rules bytes) (each_task bytes ++ (priority_rules bytes ++ output_rules bytes)) (omega arith, (omega arith, (omega arith, tt)))
 
-  found_is : (outputs : Bool) → signal_count (words_of bytes) ≤ 64 → (first_broken (each_task bytes)).number ≡ 0
-      → found outputs ≡ first_broken (clash_rules (clash_number outputs) 0 [] (map (numbers_of outputs) (map task_of (task_bodies (words_of bytes)))))
-  found_is outputs h e =
+  found_is : (numbers : Numbers) → signal_count (words_of bytes) ≤ 64 → (first_broken (each_task bytes)).number ≡ 0
+      → found numbers ≡ first_broken (clash_rules (clash_number numbers) 0 [] (map (numbers_of numbers) (map task_of (task_bodies (words_of bytes)))))
+  found_is numbers h e =
       rw (
         map-tab task_of (λ i. body_of (words_of bytes) (i + 1)) 0 (task_count (words_of bytes)),
-        map-tab (numbers_of outputs) (λ i. task_of (body_of (words_of bytes) (i + 1))) 0 (task_count (words_of bytes)),
+        map-tab (numbers_of numbers) (λ i. task_of (body_of (words_of bytes) (i + 1))) 0 (task_count (words_of bytes)),
       )
-      (clash_is (clash_number outputs) _ (rw (map-tab (λ b. numbers_of outputs (task_of b)) (λ i. body_of (words_of bytes) (i + 1)) 0 (task_count (words_of bytes))) at
-      (tasks_below outputs (signal_count (words_of bytes)) 0 (task_bodies (words_of bytes)) h (zero_all (each_task bytes) (tasks_numbered _ 0 (task_bodies (words_of bytes))) e))))
+      (clash_is (clash_number numbers) _ (rw (map-tab (λ b. numbers_of numbers (task_of b)) (λ i. body_of (words_of bytes) (i + 1)) 0 (task_count (words_of bytes))) at
+      (tasks_below numbers (signal_count (words_of bytes)) 0 (task_bodies (words_of bytes)) h (zero_all (each_task bytes) (tasks_numbered _ 0 (task_bodies (words_of bytes))) e))))
 
   -- a broken rule among the first three decides
   pub head_decides : eqb (first_broken (head_rules bytes)).number 0 ≡ false → plan_verdict bytes ≡ first_broken (head_rules bytes)
@@ -146,13 +148,13 @@ module _ (bytes : List ℕ) where
 
   -- where 4, 5 and 6 hold of every task the marks decide
   pub clashes_are : signal_count (words_of bytes) ≤ 64 → (first_broken (each_task bytes)).number ≡ 0
-      → first_broken (each_task bytes ++ (priority_rules bytes ++ output_rules bytes)) ≡ or_else (clash_of (words_of bytes) (task_count (words_of bytes)) false) (clash_of (words_of bytes) (task_count (words_of bytes)) true)
+      → first_broken (each_task bytes ++ (priority_rules bytes ++ output_rules bytes)) ≡ or_else (clash_of (words_of bytes) (task_count (words_of bytes)) Priority) (clash_of (words_of bytes) (task_count (words_of bytes)) Outputs)
   unfolding plan_of
   clashes_are h e =
       broken_append (each_task bytes) (priority_rules bytes ++ output_rules bytes) (tasks_numbered _ 0 (task_bodies (words_of bytes)))
       ∙ rw (eq-eqb (first_broken (each_task bytes)).number 0 e)
       (broken_append (priority_rules bytes) (output_rules bytes) (clash_numbered 7 0 [] (map priority_of (plan_of bytes).tasks) (omega arith))
-      ∙ sym (ap₂ or_else (found_is false h e) (found_is true h e)))
+      ∙ sym (ap₂ or_else (found_is Priority h e) (found_is Outputs h e)))
 
   -- else the first task that breaks one of them
   pub tasks_decide : eqb (first_broken (each_task bytes)).number 0 ≡ false

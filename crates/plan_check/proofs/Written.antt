@@ -15,6 +15,7 @@ use Rattle.plan.specs.File.{signal_count, task_of, task_bodies, plan_of, all_out
 use Rattle.plan.specs.Rules.{after_all, head_rules, each_task, priority_rules, output_rules, plan_rules, plan_verdict}
 use Rattle.plan.proofs.Laws.{plan_numbered}
 use Rattle.plan_check.specs.Clash.{mark_all, numbers_of}
+use Rattle.plan_check.specs.declared.Numbers.TheVariants.{Outputs}
 use Rattle.plan_check.proofs.Clash.{Below, EachBelow, same_new, tasks_below, signals_limit}
 
 shuffle : (a b c : Bool) → (a && (b && c)) ≡ ((b && a) && c)
@@ -41,7 +42,7 @@ below_append (x ∷ xs) ys a b =
     and_both (ltb x 64) (all (λ y. ltb y 64) (xs ++ ys)) (and_left (ltb x 64) (all (λ y. ltb y 64) xs) a)
     (below_append xs ys (and_right (ltb x 64) (all (λ y. ltb y 64) xs) a) b)
 
-outputs_below : (bodies : List (List ℕ)) → EachBelow (map (λ b. numbers_of true (task_of b)) bodies) → Below (all_outputs (map task_of bodies))
+outputs_below : (bodies : List (List ℕ)) → EachBelow (map (λ b. numbers_of Outputs (task_of b)) bodies) → Below (all_outputs (map task_of bodies))
 unfolding all_outputs all
 outputs_below [] b = refl
 outputs_below (ws ∷ rest) b = below_append (task_of ws).outputs (all_outputs (map task_of rest)) b.0 (outputs_below rest b.1)
@@ -69,4 +70,4 @@ module _ (bytes : List ℕ) (accepted : (plan_verdict bytes).number ≡ 0) where
   unfolding plan_of
   written_marks x h =
       marks_absent (all_outputs (map task_of (task_bodies (words_of bytes)))) x
-      (outputs_below (task_bodies (words_of bytes)) (tasks_below true (signal_count (words_of bytes)) 0 (task_bodies (words_of bytes)) signals_small each_holds)) h
+      (outputs_below (task_bodies (words_of bytes)) (tasks_below Outputs (signal_count (words_of bytes)) 0 (task_bodies (words_of bytes)) signals_small each_holds)) h

@@ -1,18 +1,26 @@
 // Document 01, 'Numbers returned': the plan check, rules 1..8 in the paper's order, for any bytes.
 #![tactic(auto)]
 
-ghost use Rattle.std.specs.Prelude.{◌≡◌, ◌+◌, ◌*◌, ◌≤◌, ◌<◌, true, false};
+ghost use Rattle.std.specs.Prelude.{◌≡◌, ◌+◌, ◌*◌, ◌≤◌, ◌<◌};
 ghost use Rattle.limits.specs.Limits.{max_tasks};
 ghost use Rattle.words.specs.Words.{words_of};
 ghost use Rattle.lists.specs.Lists.{tab};
-ghost use Rattle.answers.specs.Answers.{said, verdict, first_broken, or_else};
+ghost use Rattle.answers.specs.Answers.{said, refused, verdict, first_broken, or_else};
 ghost use Rattle.plan.specs.File.{task_count, values, body_of, task_of};
 ghost use Rattle.plan.specs.Rules.{size_rule, head_rule, chained, contents_rule, one_task, task_rules, head_rules, plan_verdict};
 ghost use Rattle.plan_check.specs.Places.{far};
-ghost use Rattle.plan_check.specs.Clash.{new_to, mark_all, marked_by, clash_number, numbers_of, clash_of};
+ghost use Rattle.plan_check.specs.Clash.{new_to, mark_all, clash_number, numbers_of, clash_of};
+ghost use Rattle.plan_check.specs.declared.Numbers.TheVariants.{Priority, Outputs};
 
-use answers::Answer;
+use answers::{Answer, Refusal};
 use words::word;
+
+// The numbers of a task that no other task may have: its priority by rule 7, its outputs by rule 8.
+#[derive(Clone, Copy, PartialEq, Eq)]
+pub enum Numbers {
+    Priority,
+    Outputs,
+}
 
 // Rule 1.
 fn size_holds(bytes: &[u8]) -> bool
@@ -41,13 +49,11 @@ fn entries_chain(bytes: &[u8], entries: u32) -> bool
 {
     let mut good = true;
     let mut at = (plan::CONTENTS_AT + entries as usize * plan::ENTRY_WORDS) as u64;
-    let mut k: u32 = 0;
-    while k < entries {
+    for k in 0..entries {
         let start = plan::start_of(bytes, k as usize);
         let size = plan::length_of(bytes, k as usize);
-        good = good & (start as u64 == at);
-        at = at + size as u64;
-        k += 1;
+        good &= start as u64 == at;
+        at += size as u64;
     }
     good & (at == (bytes.len() / 4) as u64)
 }
@@ -75,97 +81,77 @@ fn one_task(bytes: &[u8], task: u32, signals: u32) -> Answer
 fn all_tasks(bytes: &[u8], signals: u32, tasks: u32) -> Answer
     ensures { said result ≡ first_broken (task_rules signals 0 (tab (λ i. body_of (words_of bytes.now) (i + 1)) 0 tasks)) }
 {
-    let mut i: u32 = 0;
-    while i < tasks {
-        let answer = one_task(bytes, i, signals);
-        if !answers::accepted(answer) {
-            return answer;
-        }
-        i += 1;
+    for i in 0..tasks {
+        one_task(bytes, i, signals)?;
     }
-    Answer::Accepted
+    Ok(())
 }
 
-// Whether numbers are new, and the marks with them.
-#[derive(Clone, Copy)]
-pub struct Marked {
-    pub new: bool,
-    pub marks: u64,
-}
-
-// Words of a part, from a word on, against the marks.
-fn mark_words(part: &[u8], start: usize, count: u32, before: u64) -> Marked
+// Words of a part, from a word on, are marked; whether none of them was marked before.
+fn mark_words(part: &[u8], start: usize, count: u32, marks: &mut u64) -> bool
     requires { start < far }
-    ensures { result ≡ marked_by (new_to before (values (words_of part.now) start count)) (mark_all before (values (words_of part.now) start count)) }
+    ensures new { result ≡ new_to marks.old (values (words_of part.now) start count) }
+    ensures marks { marks.new ≡ mark_all marks.old (values (words_of part.now) start count) }
 {
     let mut new = true;
-    let mut marks = before;
-    let mut j: u32 = 0;
-    while j < count {
+    for j in 0..count {
         let x = word(part, start + j as usize);
-        let old = marks::is_marked(marks, x);
-        new = new & !old;
-        marks = marks::with_mark(marks, x);
-        j += 1;
+        new &= !marks::is_marked(*marks, x);
+        *marks = marks::with_mark(*marks, x);
     }
-    Marked { new, marks }
+    new
 }
 
-// A task's outputs, or its priority, against the marks.
-fn mark_task(part: &[u8], outputs: bool, before: u64) -> Marked
-    ensures { result ≡ marked_by (new_to before (numbers_of outputs (task_of (words_of part.now)))) (mark_all before (numbers_of outputs (task_of (words_of part.now)))) }
+// The same of a task's priority, or of its outputs.
+fn mark_task(part: &[u8], numbers: Numbers, marks: &mut u64) -> bool
+    ensures new { result ≡ new_to marks.old (numbers_of numbers (task_of (words_of part.now))) }
+    ensures marks { marks.new ≡ mark_all marks.old (numbers_of numbers (task_of (words_of part.now))) }
 {
-    if outputs {
-        let start = plan::outputs_at(part);
-        mark_words(part, start, word(part, plan::OUTPUT_COUNT), before)
-    } else {
-        mark_words(part, plan::PRIORITY, 1, before)
+    match numbers {
+        Numbers::Priority => mark_words(part, plan::PRIORITY, 1, marks),
+        Numbers::Outputs => {
+            let start = plan::outputs_at(part);
+            mark_words(part, start, word(part, plan::OUTPUT_COUNT), marks)
+        }
     }
 }
 
 // The same of task i of a file.
-pub fn mark_one(bytes: &[u8], task: u32, outputs: bool, before: u64) -> Marked
-    ensures { result ≡ marked_by (new_to before (numbers_of outputs (task_of (body_of (words_of bytes.now) (task + 1))))) (mark_all before (numbers_of outputs (task_of (body_of (words_of bytes.now) (task + 1))))) }
+pub fn mark_one(bytes: &[u8], task: u32, numbers: Numbers, marks: &mut u64) -> bool
+    ensures new { result ≡ new_to marks.old (numbers_of numbers (task_of (body_of (words_of bytes.now) (task + 1)))) }
+    ensures marks { marks.new ≡ mark_all marks.old (numbers_of numbers (task_of (body_of (words_of bytes.now) (task + 1)))) }
 {
-    mark_task(plan::task_part(bytes, task), outputs, before)
+    mark_task(plan::task_part(bytes, task), numbers, marks)
 }
 
-fn clash_at(outputs: bool, task: u32) -> Answer
-    ensures { said result ≡ verdict (clash_number outputs) task }
+fn clash_at(numbers: Numbers, task: u32) -> Refusal
+    ensures { refused result ≡ verdict (clash_number numbers) task }
 {
-    if outputs {
-        Answer::SameOutput { task }
-    } else {
-        Answer::SamePriority { task }
+    match numbers {
+        Numbers::Priority => Refusal::SamePriority { task },
+        Numbers::Outputs => Refusal::SameOutput { task },
     }
 }
 
 // Rules 7 and 8: the first task whose priority, or one of whose outputs, an earlier one has.
-fn first_clash(bytes: &[u8], tasks: u32, outputs: bool) -> Answer
-    ensures { said result ≡ clash_of (words_of bytes.now) tasks outputs }
+fn first_clash(bytes: &[u8], tasks: u32, numbers: Numbers) -> Answer
+    ensures { said result ≡ clash_of (words_of bytes.now) tasks numbers }
 {
     let mut marks: u64 = 0;
-    let mut i: u32 = 0;
-    while i < tasks {
-        let one = mark_one(bytes, i, outputs, marks);
-        if !one.new {
-            return clash_at(outputs, i);
+    for i in 0..tasks {
+        if !mark_one(bytes, i, numbers, &mut marks) {
+            return Err(clash_at(numbers, i));
         }
-        marks = one.marks;
-        i += 1;
     }
-    Answer::Accepted
+    Ok(())
 }
 
 // Rules 7 and then 8.
 fn clashes(bytes: &[u8], tasks: u32) -> Answer
-    ensures { said result ≡ or_else (clash_of (words_of bytes.now) tasks false) (clash_of (words_of bytes.now) tasks true) }
+    ensures { said result ≡ or_else (clash_of (words_of bytes.now) tasks Priority) (clash_of (words_of bytes.now) tasks Outputs) }
 {
-    let answer = first_clash(bytes, tasks, false);
-    if !answers::accepted(answer) {
-        return answer;
-    }
-    first_clash(bytes, tasks, true)
+    first_clash(bytes, tasks, Numbers::Priority)?;
+    first_clash(bytes, tasks, Numbers::Outputs)
 }
 
 // Rules 1, 2, 3.
@@ -173,30 +159,24 @@ fn head_answer(bytes: &[u8]) -> Answer
     ensures { said result ≡ first_broken (head_rules bytes.now) }
 {
     if !size_holds(bytes) {
-        return Answer::PlanSize;
+        return Err(Refusal::PlanSize);
     }
     if !head_holds(bytes) {
-        return Answer::PlanHead;
+        return Err(Refusal::PlanHead);
     }
     if !contents_hold(bytes) {
-        return Answer::PlanContents;
+        return Err(Refusal::PlanContents);
     }
-    Answer::Accepted
+    Ok(())
 }
 
 // The number and place of a plan: 0, or those of the first broken rule.
 pub fn check(bytes: &[u8]) -> Answer
     ensures { said result ≡ plan_verdict bytes.now }
 {
-    let head = head_answer(bytes);
-    if !answers::accepted(head) {
-        return head;
-    }
+    head_answer(bytes)?;
     let signals = word(bytes, plan::SIGNAL_COUNT);
     let tasks = word(bytes, plan::TASK_COUNT);
-    let each = all_tasks(bytes, signals, tasks);
-    if !answers::accepted(each) {
-        return each;
-    }
+    all_tasks(bytes, signals, tasks)?;
     clashes(bytes, tasks)
 }

@@ -9,7 +9,8 @@ ghost use Rattle.plan_task.specs.Orders.{slots, slot_of};
 ghost use Rattle.plan.specs.File.{task_of, values, transition_at, transitions_from, action_at, actions_from, actions_at, action_count};
 ghost use Rattle.plan.specs.Rules.{shape_rule, timing_rule, supervisor_rule, controller_rule, transition_rule, transitions_rule, action_rule, lowest, body_rule, one_task};
 
-use answers::Answer;
+use answers::{Answer, Refusal};
+use plan::{ActionKind, NoKind, TaskKind};
 use words::{known, word};
 
 // A word of marks for each state, numbered as the states are, from 1 on; word 0 is no state's.
@@ -55,14 +56,17 @@ fn timing_holds(part: &[u8]) -> bool
 fn kind_holds(part: &[u8]) -> bool
     ensures { result ≡ (supervisor_rule (task_of (words_of part.now)) || controller_rule (task_of (words_of part.now))) }
 {
-    let kind = word(part, plan::KIND);
     let initial = word(part, plan::INITIAL);
     let inputs = word(part, plan::INPUT_COUNT);
     let outputs = word(part, plan::OUTPUT_COUNT);
     let transitions = word(part, plan::TRANSITION_COUNT);
-    let supervisor = (kind == 1) & ((1 <= initial) & (initial <= limits::STATES)) & (2 <= outputs);
-    let controller = (kind == 2) & (initial == 0) & (transitions == 0) & (2 <= inputs);
-    supervisor | controller
+    match TaskKind::try_from(word(part, plan::KIND)) {
+        Ok(TaskKind::Supervisor) => {
+            ((1 <= initial) & (initial <= limits::STATES)) & (2 <= outputs)
+        }
+        Ok(TaskKind::Controller) => (initial == 0) & (transitions == 0) & (2 <= inputs),
+        Err(NoKind) => false,
+    }
 }
 
 // Rule 6: whether the words from one on, `count` of them, are signal numbers.
@@ -71,11 +75,8 @@ fn signals_hold(part: &[u8], start: usize, count: u32, signals: u32) -> bool
     ensures { result ≡ all (λ x. ltb x signals) (values (words_of part.now) start count) }
 {
     let mut good = true;
-    let mut j: u32 = 0;
-    while j < count {
-        let x = word(part, start + j as usize);
-        good = good & (x < signals);
-        j += 1;
+    for j in 0..count {
+        good &= word(part, start + j as usize) < signals;
     }
     good
 }
@@ -114,8 +115,7 @@ fn transitions_hold(part: &[u8], first: usize, count: u32, inputs: u32) -> bool
 {
     let mut seen = [0u64; SLOTS];
     let mut good = true;
-    let mut j: u32 = 0;
-    while j < count {
+    for j in 0..count {
         let at = first + j as usize * plan::TRANSITION_WORDS;
         let one = transition_holds(part, at, inputs);
         let slot = slot_of(known(part, at));
@@ -124,8 +124,7 @@ fn transitions_hold(part: &[u8], first: usize, count: u32, inputs: u32) -> bool
         let old = marks::is_marked(before, order);
         let after = marks::with_mark(before, order);
         seen[slot] = after;
-        good = good & (one & !old);
-        j += 1;
+        good &= one & !old;
     }
     good
 }
@@ -144,18 +143,21 @@ fn action_holds(part: &[u8], at: usize, ports: Ports) -> bool
     ensures { result ≡ action_rule ports.inputs ports.outputs ports.lowest (action_at (words_of part.now) at) }
 {
     let state = known(part, at);
-    let kind = known(part, at + 1);
     let a = known(part, at + 2);
     let b = known(part, at + 3);
     let c = known(part, at + 4);
-    let second = ((kind == 4) & (ports.lowest <= b) & (b < ports.outputs) & (b != a))
-        | ((kind != 4) & (b == 0));
-    ((1 <= state) & (state <= limits::STATES))
-        & ((1 <= kind) & (kind <= 4))
+    let first = ((1 <= state) & (state <= limits::STATES))
         & (ports.lowest <= a)
-        & (a < ports.outputs)
-        & second
-        & ((kind == 1) | (c < ports.inputs))
+        & (a < ports.outputs);
+    match ActionKind::try_from(known(part, at + 1)) {
+        Ok(ActionKind::Set) => first & (b == 0),
+        Ok(ActionKind::Copy) => first & (b == 0) & (c < ports.inputs),
+        Ok(ActionKind::Add) => first & (b == 0) & (c < ports.inputs),
+        Ok(ActionKind::Move) => {
+            first & ((ports.lowest <= b) & (b < ports.outputs) & (b != a)) & (c < ports.inputs)
+        }
+        Err(NoKind) => false,
+    }
 }
 
 // Rule 6, the actions.
@@ -164,11 +166,8 @@ fn actions_hold(part: &[u8], first: usize, count: u32, ports: Ports) -> bool
     ensures { result ≡ all (action_rule ports.inputs ports.outputs ports.lowest) (actions_from (words_of part.now) first count) }
 {
     let mut good = true;
-    let mut j: u32 = 0;
-    while j < count {
-        let one = action_holds(part, first + j as usize * plan::ACTION_WORDS, ports);
-        good = good & one;
-        j += 1;
+    for j in 0..count {
+        good &= action_holds(part, first + j as usize * plan::ACTION_WORDS, ports);
     }
     good
 }
@@ -177,7 +176,11 @@ fn actions_hold(part: &[u8], first: usize, count: u32, ports: Ports) -> bool
 fn lowest_output(kind: u32) -> u32
     ensures { result ≡ cond (eqb kind 1) 2 0 }
 {
-    if kind == 1 { 2 } else { 0 }
+    match TaskKind::try_from(kind) {
+        Ok(TaskKind::Supervisor) => 2,
+        Ok(TaskKind::Controller) => 0,
+        Err(NoKind) => 0,
+    }
 }
 
 // Rule 6.
@@ -212,13 +215,13 @@ pub fn task_answer(part: &[u8], signals: u32, task: u32) -> Answer
     ensures { said result ≡ first_broken (one_task signals task (words_of part.now)) }
 {
     if !shape_holds(part) {
-        return Answer::TaskShape { task };
+        return Err(Refusal::TaskShape { task });
     }
     if !timing_holds(part) {
-        return Answer::TaskTiming { task };
+        return Err(Refusal::TaskTiming { task });
     }
     if !body_holds(part, signals) {
-        return Answer::TaskBody { task };
+        return Err(Refusal::TaskBody { task });
     }
-    Answer::Accepted
+    Ok(())
 }

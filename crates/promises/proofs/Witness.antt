@@ -1,5 +1,6 @@
 -- The promises are not empty, and need what they ask: document 01's sample plan P1, and P3, where task 0 misses; beside them two
 -- plans and two event lists for which a conclusion is false.
+use Rattle.std.specs.Prelude.{Ok, Err}
 use Prim.Native.Nat.{ℕ, ◌+◌, ◌<◌}
 use mathlib.Core.Path.{◌≡◌, refl, ap, ◌∙◌, sym, subst}
 use mathlib.Core.Logic.{◌≢◌, inl, inr}
@@ -9,7 +10,7 @@ use native.Mathlib.Omega.{arith}
 use lib.ListN.{length, get_or}
 use Rattle.limits.specs.Limits.{max_time}
 use Rattle.answers.specs.Answers.{Verdict, verdict, said}
-use Rattle.answers.specs.declared.Answer.TheVariants.{Accepted, StateUnfit, TraceFull}
+use Rattle.answers.specs.declared.Refusal.TheVariants.{StateUnfit, TraceFull}
 use Rattle.plan.specs.File.{plan_of, task_at}
 use Rattle.plan.specs.Rules.{plan_verdict}
 use Rattle.events.specs.Events.{events_of, events_verdict}
@@ -64,46 +65,46 @@ alone bytes n = total_of (plan_of bytes) 0 (0 ∷ []) (reached bytes [] n).signa
 -- ---- calls
 -- 5 ticks, with room for seven records
 abbrev first : Called
-first = called Accepted p1 [] (fresh (plan_of p1)) 5 35
+first = called (Ok tt) p1 [] (fresh (plan_of p1)) 5 35
 
 -- then 7
 abbrev second : Called
-second = called Accepted p1 [] first.outcome.state 7 35
+second = called (Ok tt) p1 [] first.outcome.state 7 35
 
 -- 12 at once
 abbrev one : Called
-one = called Accepted p1 [] (fresh (plan_of p1)) 12 35
+one = called (Ok tt) p1 [] (fresh (plan_of p1)) 12 35
 
 -- 12 at once with "a trace one word short"
 abbrev short : Called
-short = called TraceFull p1 [] (fresh (plan_of p1)) 12 34
+short = called (Err TraceFull) p1 [] (fresh (plan_of p1)) 12 34
 
 -- 5 ticks, one word short of their two records
 abbrev full : Called
-full = called TraceFull p1 [] (fresh (plan_of p1)) 5 9
+full = called (Err TraceFull) p1 [] (fresh (plan_of p1)) 5 9
 
 -- then 7
 abbrev later : Called
-later = called Accepted p1 [] full.outcome.state 7 35
+later = called (Ok tt) p1 [] full.outcome.state 7 35
 
 -- 7 after the 5, one word short of their five records
 abbrev narrow : Called
-narrow = called TraceFull p1 [] first.outcome.state 7 24
+narrow = called (Err TraceFull) p1 [] first.outcome.state 7 24
 
 -- 8 at once, and 9
 abbrev eight : Called
-eight = called Accepted p1 [] (fresh (plan_of p1)) 8 35
+eight = called (Ok tt) p1 [] (fresh (plan_of p1)) 8 35
 
 abbrev nine : Called
-nine = called Accepted p1 [] (fresh (plan_of p1)) 9 35
+nine = called (Ok tt) p1 [] (fresh (plan_of p1)) 9 35
 
 -- 9 of P3, after which task 0 is in ERROR
 abbrev missed : Called
-missed = called Accepted p3 [] (fresh (plan_of p3)) 9 35
+missed = called (Ok tt) p3 [] (fresh (plan_of p3)) 9 35
 
 -- 7 after the 5, with other events
 abbrev other : Called
-other = called StateUnfit p1 (sets_at0 2) first.outcome.state 7 35
+other = called (Err StateUnfit) p1 (sets_at0 2) first.outcome.state 7 35
 
 -- ---- one tick
 -- the signal of task 0's first output after it
@@ -252,15 +253,15 @@ only_moves = (
 
 -- the first three calls are what the entry gives
 first_runs : CalledFrom p1 [] (fresh (plan_of p1)) first
-first_runs = runs_of Accepted p1 [] (fresh (plan_of p1)) 5 35 (sym answered.in_5)
+first_runs = runs_of (Ok tt) p1 [] (fresh (plan_of p1)) 5 35 (sym answered.in_5)
 
 -- then 7
 second_runs : CalledFrom p1 [] first.outcome.state second
-second_runs = runs_of Accepted p1 [] first.outcome.state 7 35 (sym answered.in_7)
+second_runs = runs_of (Ok tt) p1 [] first.outcome.state 7 35 (sym answered.in_7)
 
 -- 12 at once
 one-runs : CalledFrom p1 [] (fresh (plan_of p1)) one
-one-runs = runs_of Accepted p1 [] (fresh (plan_of p1)) 12 35 (sym answered.in_12)
+one-runs = runs_of (Ok tt) p1 [] (fresh (plan_of p1)) 12 35 (sym answered.in_12)
 
 -- the fresh start is what its entry gives
 starts_p1 : Starts p1 (started p1)
@@ -279,7 +280,7 @@ service = record { starts = starts_p1; accepted = refl; in_turn = (first_runs, (
 pub other-untouched : Untouched first.outcome.state other.lent other.left other.outcome
 other-untouched =
     refusal_leaves p1 (sets_at0 2) first.outcome.state 7 other.lent other.left other.outcome
-    (runs_of StateUnfit p1 (sets_at0 2) first.outcome.state 7 35 (sym answered.with_others)) (omega arith, omega arith)
+    (runs_of (Err StateUnfit) p1 (sets_at0 2) first.outcome.state 7 35 (sym answered.with_others)) (omega arith, omega arith)
 
 -- not so 0: 12 ticks were run
 pub run_not_untouched : Untouched (fresh (plan_of p1)) one.lent one.left one.outcome → ⊥
@@ -296,7 +297,7 @@ pub short_stops : (short.outcome.ticks ≡ 10) × StopsBefore (plan_of p1) (even
 short_stops = (
   answered.ticks-short,
   full_stops p1 [] (fresh (plan_of p1)) 12 short.lent short.left short.outcome
-      (runs_of TraceFull p1 [] (fresh (plan_of p1)) 12 34 (sym answered.in_34_words)) refl,
+      (runs_of (Err TraceFull) p1 [] (fresh (plan_of p1)) 12 34 (sym answered.in_34_words)) refl,
 )
 
 -- ---- runs compose
@@ -310,7 +311,7 @@ five_and_seven =
 -- not with "a trace one word short"
 pub not_one_word_short : CalledFrom p1 [] (fresh (plan_of p1)) short × (Composed first second short → ⊥)
 not_one_word_short =
-    (runs_of TraceFull p1 [] (fresh (plan_of p1)) 12 34 (sym answered.in_34_words), λ h. let e = h.answer in absurd (omega (arith, e)))
+    (runs_of (Err TraceFull) p1 [] (fresh (plan_of p1)) 12 34 (sym answered.in_34_words), λ h. let e = h.answer in absurd (omega (arith, e)))
 
 -- nor after a call whose trace was full: it ran no tick
 pub not_after_full : CalledFrom p1 [] (fresh (plan_of p1)) full × CalledFrom p1 [] full.outcome.state later
@@ -319,8 +320,8 @@ not_after_full =
     let a = answered.ticks-full in
     let b = answered.ticks-later in
     let c = answered.ticks-12 in (
-      runs_of TraceFull p1 [] (fresh (plan_of p1)) 5 9 (sym answered.in_9_words),
-      runs_of Accepted p1 [] full.outcome.state 7 35 (sym answered.in_7_later),
+      runs_of (Err TraceFull) p1 [] (fresh (plan_of p1)) 5 9 (sym answered.in_9_words),
+      runs_of (Ok tt) p1 [] full.outcome.state 7 35 (sym answered.in_7_later),
       λ h. let e = h.ticks in absurd (omega arith),
     )
 
@@ -332,7 +333,7 @@ twelve_in_two =
 -- not where the second's trace is shorter: one word short of its five records
 pub not_with_less : CalledFrom p1 [] first.outcome.state narrow × (AllRun narrow → ⊥)
 not_with_less =
-    (runs_of TraceFull p1 [] first.outcome.state 7 24 (sym answered.in_24_words), λ e. absurd (omega (arith, e)))
+    (runs_of (Err TraceFull) p1 [] first.outcome.state 7 24 (sym answered.in_24_words), λ e. absurd (omega (arith, e)))
 
 -- ---- a state that the kernel returned fits
 -- after both calls
@@ -349,7 +350,7 @@ never_12 = never_unfit p1 [] (started p1) (first ∷ second ∷ []) service
 pub other-events_12 : (events_verdict p1 (sets_at0 2) ≡ verdict 0 0) × CalledFrom p1 (sets_at0 2) first.outcome.state other
     × ((said other.outcome.answer).number ≡ 12)
 other-events_12 =
-    (answered.accepted, runs_of StateUnfit p1 (sets_at0 2) first.outcome.state 7 35 (sym answered.with_others), refl)
+    (answered.accepted, runs_of (Err StateUnfit) p1 (sets_at0 2) first.outcome.state 7 35 (sym answered.with_others), refl)
 
 -- at 1,000,000 a state fits, and after a further tick it does not
 pub not_after_the_last : Fits (plan_of p1) (events_of []) late
@@ -383,8 +384,8 @@ pub p1-eighth : AtOnce (plan_of p1) 0 eight.outcome.state (of_tick 8 (all_record
 unfolding computing_sample
 p1-eighth =
     service_at_once p1 [] (started p1) (one ∷ []) (service_of one one-runs) 0 (omega arith) 8 (omega arith)
-    (started p1) (eight ∷ []) (service_of eight (runs_of Accepted p1 [] (fresh (plan_of p1)) 8 35 (sym answered.in_8))) answered.ticks-8
-    (started p1) (nine ∷ []) (service_of nine (runs_of Accepted p1 [] (fresh (plan_of p1)) 9 35 (sym answered.in_9))) answered.ticks-9
+    (started p1) (eight ∷ []) (service_of eight (runs_of (Ok tt) p1 [] (fresh (plan_of p1)) 8 35 (sym answered.in_8))) answered.ticks-8
+    (started p1) (nine ∷ []) (service_of nine (runs_of (Ok tt) p1 [] (fresh (plan_of p1)) 9 35 (sym answered.in_9))) answered.ticks-9
 
 -- task 0 writes nothing or all at once in a tick of the definition
 abbrev OnceIn : List ℕ → List ℕ → State → Type 0
@@ -451,7 +452,7 @@ p3-error = (
       (record {
         starts = record { answer = sym computed.1.plan; state = rw computed.1.plan };
         accepted = refl;
-        in_turn = (runs_of Accepted p3 [] (fresh (plan_of p3)) 9 35 (sym answered.p3-in_9), tt);
+        in_turn = (runs_of (Ok tt) p3 [] (fresh (plan_of p3)) 9 35 (sym answered.p3-in_9), tt);
       })
       turns 0 answered.p3-error,
 )

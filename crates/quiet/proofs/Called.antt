@@ -13,9 +13,10 @@ use Rattle.trace.specs.Trace.{miss_kind}
 use Rattle.events.specs.Events.{Event}
 use Rattle.arrays.specs.Arrays.{Arrays, Step, still, ready, active, finished, field, with_field, row_field}
 use Rattle.tick.specs.Turns.{requests, Call, released, overrun, ignored, periodic_call}
-use Rattle.steps.specs.Flat.{each_row, called, task_of_row, status_of, write_row, fail_row, lapse, ends_now, is_due, call_of_row, answer_row, grant, finish_task, work, first_active, runs_flat, between}
+use Rattle.steps.specs.Flat.{each_row, called, task_of_row, write_row, fail_row, lapse, ends_now, is_due, call_of_row, answer_row, grant, finish_task, work, first_active, runs_flat, between}
 use Rattle.step.specs.Step.{Given, place_after, with_events, step_flat, step_called}
 use Rattle.state.specs.declared.Status.TheVariants.{ACTIVE}
+use Rattle.state.specs.Numbers.{status_of}
 use Rattle.quiet.specs.Quiet.{RowQuiet, Wakes, OthersWake, OthersLater, Distinct, OthersRest}
 use Rattle.quiet.proofs.Rows.{asked_quiet, driven_quiet, due-quiet, quiet-lapse}
 use Rattle.quiet.proofs.Ticks.{in_range}

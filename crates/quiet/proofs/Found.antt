@@ -4,12 +4,9 @@ use Prim.Native.Nat.{ℕ, zero, suc, ◌+◌, ◌-◌, ◌*◌, ◌<◌, ◌≤�
 use mathlib.Core.Path.{◌≡◌, refl}
 use mathlib.Core.List.{List}
 use native.Mathlib.Omega.{arith}
-use mathlib.Core.Bool.{cond}
 use lib.ListN.{set}
-use lib.Dec.{eqb}
 use borrow.Author.Tests.{lt-ltb, le-ltb}
-use Rattle.lists.proofs.Laws.{more, done}
-use Rattle.arrays.specs.Arrays.{active, field}
+use Rattle.arrays.specs.Arrays.{field}
 use Rattle.steps.specs.Flat.{task_of_row, end_from, first_active}
 use Rattle.quiet.specs.Quiet.{RowsQuiet, lowered, Calm, Passed}
 
@@ -57,14 +54,3 @@ bounded event wake first past most t left e p m = rw (m, p, e)
 -- the running task has a tick to spare after those passed over
 pub spared : (most rest less n : ℕ) → less ≡ rest - 1 → n ≡ min most less → (n ≡ 0 → ⊥) → n < rest
 spared most rest less n l m h = omega arith
-
--- ---- the first ACTIVE row, one row at a time: k seen of n
-module _ (rows tasks : List ℕ) (n k : ℕ) where
-  pub first_more : k < n
-      → first_active rows tasks (n - k) k ≡ cond (eqb (field tasks (task_of_row rows k) 0) active) k (first_active rows tasks (n - (k + 1)) (k + 1))
-  unfolding first_active
-  first_more h = rw (more n k h)
-
-  pub first_done : n ≤ k → first_active rows tasks (n - k) k ≡ k
-  unfolding first_active
-  first_done h = rw (done n k h)

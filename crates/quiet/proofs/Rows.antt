@@ -9,9 +9,10 @@ use borrow.Author.Tests.{ne_eqb, eqb-true}
 use Rattle.arrays.specs.Arrays.{Arrays, Step, still, ready, active, finished, field, row_field}
 use Rattle.tick.specs.Turns.{requests, ignored, event_call, periodic_call}
 use Rattle.trace.specs.Trace.{miss_kind}
-use Rattle.steps.specs.Flat.{status_of, task_of_row, write_row, fail_row, ends_now, lapse, is_due, answer_row, grant}
+use Rattle.steps.specs.Flat.{task_of_row, write_row, fail_row, ends_now, lapse, is_due, answer_row, grant}
 use Rattle.state.specs.declared.Status.{Status}
 use Rattle.state.specs.declared.Status.TheVariants.{READY, ACTIVE, FINISHED, ERROR}
+use Rattle.state.specs.Numbers.{status_of}
 use Rattle.quiet.specs.Quiet.{in_flight, RowQuiet}
 
 -- ---- calls that come to nothing

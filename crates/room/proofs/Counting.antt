@@ -8,7 +8,6 @@ use native.Mathlib.Omega.{arith}
 use lib.ListN.{length, length-append, length-replicate}
 use lib.Dec.{eqb, ltb, leb}
 use borrow.Author.Tests.{ne_eqb, lt-leb}
-use Rattle.lists.proofs.Laws.{more, done}
 use Rattle.events.specs.Events.{Event}
 use Rattle.trace.specs.Trace.{entry, ignored_kind}
 use Rattle.arrays.specs.Arrays.{Arrays, Step, still, active, error, field, with_field, row_field}
@@ -106,16 +105,6 @@ runs-length t ws rows n a tasks j same e = rw (← (e ∙ ap (λ (l : List ℕ).
         ≡ cond b (cond (leb (field tasks (task_of_row rows j) 1) 1 && eqb (row_field rows j 2) 0) (row_field rows j 8) 0) 0
     go true = rw (← same) (work-length t ws rows j a)
     go false = refl
-
--- ---- the first ACTIVE row, one row at a time
-module _ (rows tasks : List ℕ) (n k : ℕ) where
-  pub active-more : k < n → first_active rows tasks (n - k) k ≡ cond (eqb (field tasks (task_of_row rows k) 0) active) k (first_active rows tasks (n - (k + 1)) (k + 1))
-  unfolding first_active
-  active-more h = rw (more n k h)
-
-  pub active-done : n ≤ k → first_active rows tasks (n - k) k ≡ k
-  unfolding first_active
-  active-done h = rw (done n k h)
 
 -- ---- the tick: the records of the three steps, each counted from the tasks that the step before left
 pub step_counts : (g : Given) (t place last : ℕ) (tasks lapsed granted : List ℕ) (x y z : ℕ) → last ≡ place_after g t place

@@ -14,9 +14,10 @@ use Rattle.events.specs.Events.{Event, event_of}
 use Rattle.trace.specs.Trace.{entry, miss_kind, ignored_kind}
 use Rattle.state.specs.declared.Status.{Status}
 use Rattle.state.specs.declared.Status.TheVariants.{READY, ACTIVE, FINISHED, ERROR}
+use Rattle.state.specs.Numbers.{status_of}
 use Rattle.arrays.specs.Arrays.{Arrays, Step, still, active, finished, field, with_field, row_field}
 use Rattle.tick.specs.Turns.{requests, Call, released, overrun, ignored, periodic_call, event_call}
-use Rattle.steps.specs.Flat.{each_row, status_of, task_of_row, row_writes, write_row, fail_row, ends_now, lapse, end_from, between, is_due, call_of_row, answer_row, grant, finish_task, work, first_active, runs_flat}
+use Rattle.steps.specs.Flat.{each_row, task_of_row, row_writes, write_row, fail_row, ends_now, lapse, end_from, between, is_due, call_of_row, answer_row, grant, finish_task, work, first_active, runs_flat}
 use Rattle.steps.proofs.Laws.{writes_length}
 use Rattle.step.specs.Step.{Given, place_after, with_events, step_flat, Ready}
 use Rattle.step.specs.declared.Clock.{Clock}

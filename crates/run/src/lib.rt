@@ -15,9 +15,8 @@ ghost use Rattle.run.specs.Run.{Watched, Asked, Ends, Turned, run_flat};
 
 use step::Clock;
 
-const TASKS: usize = limits::TASKS as usize;
-
-// How a run of ticks ended: the clock after it, the ticks run, and whether the trace was too full for the next one.
+// How a run of ticks ended: the clock after it, the ticks run, and whether the trace was too full for the next one. No Result: clock
+// and ticks hold either way.
 #[derive(Clone, Copy)]
 pub struct Ran {
     pub clock: Clock,
@@ -36,7 +35,7 @@ fn tick_once(
     last: u32,
     calls: u32,
     most: usize,
-    wakes: &mut [u32; TASKS],
+    wakes: &mut [u32; limits::ALL_TASKS],
     signals: &mut [u32],
     tasks: &mut [u32],
     latched: &mut [u32],
@@ -86,7 +85,7 @@ fn rest(
     last: u32,
     calls: u32,
     left: u32,
-    wakes: &[u32; TASKS],
+    wakes: &[u32; limits::ALL_TASKS],
     tasks: &mut [u32],
 ) -> Ran
     requires bounds { (count ≤ max_tasks) × (clock.place ≤ event_count events.now) × (clock.tick + left < 2 ^ 31) }
@@ -135,7 +134,7 @@ fn turn(
     clock: Clock,
     left: u32,
     most: usize,
-    wakes: &mut [u32; TASKS],
+    wakes: &mut [u32; limits::ALL_TASKS],
     signals: &mut [u32],
     tasks: &mut [u32],
     latched: &mut [u32],
@@ -197,6 +196,7 @@ pub fn run_ticks(
     let mut wakes = quiet::no_wakes(count);
     let mut now = clock;
     let mut done: u32 = 0;
+    // A turn may be many ticks, so this is no `for`.
     while done < asked {
         let one = turn(
             plan,
@@ -213,17 +213,15 @@ pub fn run_ticks(
             held,
             trace,
         );
-        let next = one.clock;
-        let total = done + one.ticks;
+        now = one.clock;
+        done += one.ticks;
         if one.full {
             return Ran {
-                clock: next,
-                ticks: total,
+                clock: now,
+                ticks: done,
                 full: true,
             };
         }
-        now = next;
-        done = total;
     }
     Ran {
         clock: now,

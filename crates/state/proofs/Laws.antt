@@ -1,21 +1,18 @@
--- What the code's proofs cite: lists that are filled or compared one place after the other, the values of a plan, and the
--- event place by its neighbours.
+-- What the code's proofs cite: the values of a plan, and the event place by its neighbours.
 use Prim.Native.Nat.{ℕ, zero, suc, ◌+◌, ◌-◌, ◌<◌, ◌≤◌}
 use mathlib.Core.Path.{◌≡◌, refl, sym, ap, subst, ◌∙◌}
-use mathlib.Core.Bool.{Bool, true, false, cond, ◌&&◌}
+use mathlib.Core.Bool.{Bool, true, false, cond}
 use mathlib.Core.List.{List, map}
 use mathlib.Core.Logic.{◌↔◌, ◌≢◌, ◌⊎◌, inl, inr}
 use native.Mathlib.Omega.{arith}
 use native.Mathlib.Nat.{zero-add, eq-or-lt_of_le}
-use native.Mathlib.Numerals.{add-one}
-use lib.ListN.{length, get_or, set, drop, replicate, length-set, length-replicate, length-map, drop_of_length-le, get_or-eq_default}
-use lib.Seq.{drop-cons, get_or-set_same, get_or-set_other, ext_get_or}
+use lib.ListN.{length, get_or, length-map, get_or-eq_default}
 use lib.Dec.{eqb, ltb}
 use borrow.Author.Tests.{ltb-true, ltb-false, lt-ltb, le-ltb, eqb-true, eq-eqb}
 use Rattle.words.specs.Words.{words_of}
 use Rattle.words.proofs.Laws.{part-words}
-use Rattle.lists.specs.Lists.{tab, all}
-use Rattle.lists.proofs.Laws.{length-tab, get_or-tab, map-tab, and_assoc, and_true, map-in}
+use Rattle.lists.specs.Lists.{tab}
+use Rattle.lists.proofs.Laws.{length-tab, get_or-tab, map-tab, map-in}
 use Rattle.lists.proofs.Tests.{tests, choices, same_or_not}
 use Rattle.plan.specs.File.{word, start_of, length_of, body_part, signal_count, task_count, outputs_at, output_count, task_of, Plan, plan_of, no_task, task_at}
 use Rattle.plan.proofs.Laws.{signals_length, tasks_length}
@@ -24,42 +21,6 @@ use Rattle.events.specs.Events.{Event, event_count, events_of, event_of, passed,
 use Rattle.events.proofs.Acceptance.{accepted_exactly}
 use Rattle.state.specs.State.{value_at, fresh_task, idle}
 use Rattle.state.specs.Steps.{neighbours, place_rule, fresh_at}
-
--- ---- a test of each from place k on, one step at a time; t is what the tests before came to
-module _ {A : Type 0} (p : A → Bool) (d : A) (xs : List A) (k : ℕ) (t : Bool) where
-  pub from_more : k < length xs → (t && all p (drop k xs)) ≡ ((t && p (get_or xs k d)) && all p (drop (k + 1) xs))
-  unfolding all
-  from_more h = rw (add-one k, drop-cons xs k d h) (and_assoc t (p (get_or xs k d)) (all p (drop (suc k) xs)))
-
-  pub from_done : length xs ≤ k → (t && all p (drop k xs)) ≡ t
-  unfolding all
-  from_done h = rw (drop_of_length-le xs h) (and_true t)
-
--- ---- a list of n places, of which the first i are filled by a rule
-pub record Filled {A : Type 0} (f : ℕ → A) (d : A) (n i : ℕ) (xs : List A) : Type 0 where
-  pub size : length xs ≡ n
-  pub filled : (j : ℕ) → j < i → get_or xs j d ≡ f j
-
-pub fill_none : {A : Type 0} (f : ℕ → A) (d : A) (n : ℕ) (v : A) → Filled f d n 0 (replicate n v)
-fill_none f d n v = record { size = length-replicate n v; filled = λ j h. absurd (omega arith) }
-
-module _ {A : Type 0} (f : ℕ → A) (d : A) (n i : ℕ) (xs : List A) where
-  pub fill_more : i < n → Filled f d n i xs → Filled f d n (i + 1) (set xs i (f i))
-  fill_more less h =
-      let size = h.size in
-      let low : (j : ℕ) → j < i → get_or (set xs i (f i)) j d ≡ f j
-      = λ j below. get_or-set_other xs i j (f i) d (λ e. absurd (omega arith)) ∙ h.filled j below in
-      record { size = simp length-set h.size; filled = λ j below. let most : j ≤ i = omega arith in go low j below (eq-or-lt_of_le most) }
-    where
-      go : ((j : ℕ) → j < i → get_or (set xs i (f i)) j d ≡ f j) → (j : ℕ) → j < i + 1 → (j ≡ i) ⊎ (j < i) → get_or (set xs i (f i)) j d ≡ f j
-      go low j below (inl e) = subst (λ k. get_or (set xs i (f i)) k d ≡ f k) (sym e) (get_or-set_same xs i (f i) d (let size = h.size in omega arith))
-      go low j below (inr b) = low j b
-
-  pub fill_done : n ≤ i → Filled f d n i xs → xs ≡ tab f 0 n
-  fill_done most h =
-      let size = h.size in
-      ext_get_or d xs (tab f 0 n) (size ∙ sym (length-tab f 0 n))
-      (λ j less. h.filled j (omega arith) ∙ ap f (sym (zero-add j)) ∙ sym (get_or-tab f d 0 n j (omega arith)))
 
 -- ---- the values of a plan
 module _ (bytes : List ℕ) (x : ℕ) where

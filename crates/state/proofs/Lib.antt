@@ -5,3 +5,4 @@ pub mod Zeros
 pub mod Fresh
 pub mod Fitting
 pub mod Computing
+pub mod Made

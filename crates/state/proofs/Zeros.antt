@@ -1,7 +1,7 @@
 -- Lists whose values are 0 from a place on, and tests of each place of a list.
 use Prim.Native.Nat.{ℕ, zero, suc, ◌+◌, ◌-◌, ◌<◌, ◌≤◌}
 use mathlib.Core.Path.{◌≡◌, refl, sym, ap, subst, ◌∙◌}
-use mathlib.Core.Bool.{Bool, true, false}
+use mathlib.Core.Bool.{Bool, true, false, ◌&&◌}
 use mathlib.Core.List.{List, [], ◌∷◌}
 use mathlib.Core.Logic.{◌↔◌, ◌⊎◌, inl, inr}
 use native.Mathlib.Omega.{arith}
@@ -10,11 +10,18 @@ use lib.ListN.{length, get_or, drop, replicate, get_or-eq_default}
 use lib.Seq.{get_or-drop}
 use lib.Dec.{eqb, ltb}
 use borrow.Author.Tests.{ltb-true, ltb-false}
+use Rattle.std.specs.List.{list_all}
 use Rattle.lists.specs.Lists.{tab, all, Every}
 use Rattle.lists.proofs.Laws.{length-tab, get_or-tab}
 use Rattle.lists.proofs.Tests.{and_iff, all-iff, eqb-iff}
 use Rattle.state.specs.State.{pad}
 use Rattle.state.specs.Fits.{zeros_from}
+
+-- the library's name for `all`
+pub all-listed : {A : Type 0} (p : A → Bool) (xs : List A) → list_all p xs ≡ all p xs
+unfolding all
+all-listed p [] = refl
+all-listed p (x ∷ xs) = ap (λ (b : Bool). p x && b) (all-listed p xs)
 
 -- ---- 0 from a place on
 every_zero : (xs : List ℕ) → Every (λ x. x ≡ 0) xs ↔ ((i : ℕ) → get_or xs i 0 ≡ 0)

@@ -2,3 +2,4 @@ pub mod State
 pub mod Fits
 pub mod Fitting
 pub mod Steps
+pub mod Numbers

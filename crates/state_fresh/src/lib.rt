@@ -8,14 +8,10 @@ ghost use Rattle.plan.specs.File.{task_of, plan_of};
 ghost use Rattle.state.specs.State.{pad, value_at, idle, fresh_task, fresh, zero_state};
 ghost use Rattle.state.specs.Steps.{fresh_at};
 
+use limits::{ALL_PORTS, ALL_SIGNALS, ALL_TASKS};
 use state::{State, Status, TaskState};
+use std::array;
 use words::word;
-
-const PORTS: usize = limits::PORTS as usize;
-
-const SIGNALS: usize = limits::SIGNALS as usize;
-
-const TASKS: usize = limits::TASKS as usize;
 
 // What stands from T on.
 fn idle_task() -> TaskState
@@ -26,20 +22,19 @@ fn idle_task() -> TaskState
         remaining: 0,
         release: 0,
         machine: 0,
-        latched: [0; PORTS],
-        held: [0; PORTS],
+        latched: [0; ALL_PORTS],
+        held: [0; ALL_PORTS],
     }
 }
 
 pub fn zero_state() -> State
     ensures { result ≡ zero_state }
 {
-    let task = idle_task();
     State {
         tick: 0,
         place: 0,
-        signals: [0; SIGNALS],
-        tasks: [task; TASKS],
+        signals: [0; ALL_SIGNALS],
+        tasks: [idle_task(); ALL_TASKS],
     }
 }
 
@@ -54,17 +49,10 @@ fn initial_value(plan: &[u8], signal: u32) -> u32
     }
 }
 
-fn fresh_signals(plan: &[u8]) -> [u32; SIGNALS]
+fn fresh_signals(plan: &[u8]) -> [u32; ALL_SIGNALS]
     ensures { result ≡ pad max_signals 0 (plan_of plan.now).signals }
 {
-    let mut signals = [0u32; SIGNALS];
-    let mut i: u32 = 0;
-    while i < limits::SIGNALS {
-        let x = initial_value(plan, i);
-        signals[i as usize] = x;
-        i += 1;
-    }
-    signals
+    array::from_fn(|i| initial_value(plan, i as u32))
 }
 
 // The initial value of the signal that a task writes at a position; 0 where it has no such output.
@@ -79,30 +67,22 @@ fn initial_output(plan: &[u8], part: &[u8], position: u32) -> u32
     }
 }
 
-fn fresh_outputs(plan: &[u8], part: &[u8]) -> [u32; PORTS]
+fn fresh_outputs(plan: &[u8], part: &[u8]) -> [u32; ALL_PORTS]
     ensures { result ≡ pad max_ports 0 (map (value_at (plan_of plan.now).signals) (task_of (words_of part.now)).outputs) }
 {
-    let mut held = [0u32; PORTS];
-    let mut i: u32 = 0;
-    while i < limits::PORTS {
-        let x = initial_output(plan, part, i);
-        held[i as usize] = x;
-        i += 1;
-    }
-    held
+    array::from_fn(|i| initial_output(plan, part, i as u32))
 }
 
 fn fresh_task(plan: &[u8], part: &[u8]) -> TaskState
     ensures { result ≡ fresh_task (plan_of plan.now).signals (task_of (words_of part.now)) }
 {
-    let held = fresh_outputs(plan, part);
     TaskState {
         status: Status::READY,
         remaining: 0,
         release: 0,
         machine: word(part, plan::INITIAL),
-        latched: [0; PORTS],
-        held,
+        latched: [0; ALL_PORTS],
+        held: fresh_outputs(plan, part),
     }
 }
 
@@ -121,19 +101,10 @@ fn fresh_at(plan: &[u8], task: u32) -> TaskState
 pub fn fresh_state(plan: &[u8]) -> State
     ensures { result ≡ fresh (plan_of plan.now) }
 {
-    let signals = fresh_signals(plan);
-    let task = idle_task();
-    let mut tasks = [task; TASKS];
-    let mut i: u32 = 0;
-    while i < limits::TASKS {
-        let x = fresh_at(plan, i);
-        tasks[i as usize] = x;
-        i += 1;
-    }
     State {
         tick: 0,
         place: 0,
-        signals,
-        tasks,
+        signals: fresh_signals(plan),
+        tasks: array::from_fn(|i| fresh_at(plan, i as u32)),
     }
 }

@@ -7,11 +7,11 @@ ghost use Rattle.arrays.specs.Arrays.{Does};
 ghost use Rattle.steps.specs.Flat.{ends_now, lapse, each_row, called};
 
 use arrays::{row_field, task_field};
-use trace::Entry;
+use trace::{Entry, Kind};
 use writes::{reset_task, write_row};
 
 // Whether a deadline above 0, counted from a release, is now. The sum is taken in 64 bits and cannot wrap.
-fn ends_now(t: u32, release: u32, deadline: u32) -> bool
+pub fn ends_now(t: u32, release: u32, deadline: u32) -> bool
     ensures { result ≡ ends_now t release deadline }
 {
     let end = release as u64 + deadline as u64;
@@ -19,6 +19,7 @@ fn ends_now(t: u32, release: u32, deadline: u32) -> bool
 }
 
 // The turn of one row.
+#[tactic(auto, unfolding(steps::specs::Flat::lapse, trace::specs::Trace::over))]
 fn lapse_row(
     rows: &[u32],
     row: u32,
@@ -45,17 +46,7 @@ fn lapse_row(
             return at;
         }
         if status == arrays::ACTIVE {
-            trace::put(
-                trace,
-                from,
-                Entry {
-                    instant: t,
-                    kind: 3,
-                    task,
-                    signal: 0,
-                    value: 0,
-                },
-            );
+            trace::put(trace, from, Entry::new(t, Kind::Miss, task));
             reset_task(tasks, task, arrays::ERROR);
             return from + 5;
         }
@@ -81,10 +72,8 @@ pub fn deadlines(
     ensures near { result ≤ from + 2 ^ 39 }
 {
     let mut at = from;
-    let mut j = turns::next(calls, 0);
-    while j < count {
-        at = lapse_row(rows, j, t, held, signals, tasks, trace, at);
-        j = turns::next(calls, j + 1);
+    for row in turns::rows(calls, count) {
+        at = lapse_row(rows, row, t, held, signals, tasks, trace, at);
     }
     at
 }

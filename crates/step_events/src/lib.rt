@@ -9,6 +9,7 @@ ghost use Rattle.steps.specs.Flat.{end_from, between};
 ghost use Rattle.step_events.specs.Events.{set_one};
 
 use arrays::put;
+use events::EventKind;
 use words::word;
 
 // The place after the last event of instant t, where those of t start at a place.
@@ -17,14 +18,12 @@ pub fn end_of(events: &[u8], t: u32, place: u32, count: u32) -> u32
     ensures value { result ≡ end_from (words_of events.now) t (count - place) place }
     ensures bounds { (place ≤ result) × (result ≤ count) }
 {
-    let mut p = place;
-    while p < count {
+    for p in place..count {
         if word(events, p as usize * 4) != t {
             return p;
         }
-        p += 1;
     }
-    p
+    count
 }
 
 // One event takes effect if it sets a signal.
@@ -32,8 +31,10 @@ fn set_signal(events: &[u8], p: u32, signals: &mut [u32])
     ensures { signals.new ≡ set_one (event_of (words_of events.now) p) signals.old }
 {
     let at = p as usize * 4;
-    if word(events, at + 1) == 2 {
-        put(signals, word(events, at + 2) as usize, word(events, at + 3));
+    match EventKind::try_from(word(events, at + 1)) {
+        Ok(EventKind::Set) => put(signals, word(events, at + 2) as usize, word(events, at + 3)),
+        Ok(EventKind::Release) => {}
+        Err(_) => {}
     }
 }
 
@@ -41,9 +42,7 @@ fn set_signal(events: &[u8], p: u32, signals: &mut [u32])
 pub fn set_signals(events: &[u8], from: u32, to: u32, signals: &mut [u32])
     ensures { signals.new ≡ set_now (between (words_of events.now) from to) signals.old }
 {
-    let mut p = from;
-    while p < to {
+    for p in from..to {
         set_signal(events, p, signals);
-        p += 1;
     }
 }

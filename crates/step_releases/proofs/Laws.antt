@@ -7,14 +7,25 @@ use native.Mathlib.Omega.{arith}
 use lib.ListN.{set, replicate}
 use lib.Dec.{eqb, eqb-suc-zero}
 use borrow.Author.Tests.{eq-eqb, ne_eqb, eqb-true, eqb-false}
+use Rattle.std.specs.Int.{from_bool}
 use Rattle.lists.specs.Lists.{tab}
 use Rattle.lists.proofs.Laws.{more, done, tab-more, tab-done}
 use Rattle.events.specs.Events.{Event}
 use Rattle.state.specs.declared.Status.TheVariants.{READY}
+use Rattle.state.specs.Numbers.{status_of}
 use Rattle.arrays.specs.Arrays.{field, row_field}
 use Rattle.tick.specs.Turns.{requests, released, overrun, ignored, periodic_call, event_call}
-use Rattle.steps.specs.Flat.{status_of, latch, latched_at, task_of_row, is_due, call_of_row}
+use Rattle.steps.specs.Flat.{latch, latched_at, task_of_row, is_due, call_of_row}
 use Rattle.step_releases.specs.Asked.{asked_of, closed}
+
+-- a test as a number
+pub one_where : (b : Bool) → from_bool b ≡ cond b 1 0
+one_where true = refl
+one_where false = refl
+
+pub one_at_most : {n : ℕ} (b : Bool) → n ≡ from_bool b → n ≤ 1
+one_at_most true e = omega (arith, e)
+one_at_most false e = omega (arith, e)
 
 module _ (f : ℕ → Event) (n p : ℕ) where
   pub asks_more : (i k : ℕ) → p < n

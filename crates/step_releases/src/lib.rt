@@ -1,9 +1,10 @@
 // Document 01, 'One tick', step 2 over the lent arrays: releases.
 #![tactic(auto)]
 
-ghost use Rattle.std.specs.Prelude.{◌≡◌, List, cond, ℕ, ◌+◌, ◌*◌, ◌-◌, ◌<◌, ◌≤◌, ◌^◌, eqb, length, replicate};
+ghost use Rattle.std.specs.Prelude.{◌≡◌, List, ℕ, ◌+◌, ◌*◌, ◌-◌, ◌<◌, ◌≤◌, ◌^◌, eqb, length, replicate, ◌&&◌};
 ghost use Rattle.limits.specs.Limits.{max_tasks, max_ports};
 ghost use Rattle.words.specs.Words.{words_of};
+ghost use Rattle.events.specs.Events.{event_of};
 ghost use Rattle.trace.specs.Trace.{over, entry, ignored_kind};
 ghost use Rattle.tick.specs.Turns.{requests, released};
 ghost use Rattle.arrays.specs.Arrays.{Does, row_field};
@@ -11,30 +12,31 @@ ghost use Rattle.steps.specs.Flat.{between, task_of_row, latched_at, latch, is_d
 ghost use Rattle.step_releases.specs.Asked.{asked_of, closed, Ignored, Started};
 
 use arrays::{get, put, row_field, task_field};
-use trace::Entry;
+use events::EventKind;
+use trace::{Entry, Kind};
 use words::word;
+
+// Whether an event asks a task to start.
+fn asks(events: &[u8], p: u32, task: u32) -> bool
+    ensures { result ≡ (eqb (event_of (words_of events.now) p).kind 1 && eqb (event_of (words_of events.now) p).target task) }
+{
+    let at = p as usize * 4;
+    match EventKind::try_from(word(events, at + 1)) {
+        Ok(EventKind::Release) => word(events, at + 2) == task,
+        Ok(EventKind::Set) => false,
+        Err(_) => false,
+    }
+}
 
 // How many of the events from a place to another release a task.
 fn requests_of(events: &[u8], from: u32, to: u32, task: u32) -> u32
     ensures { result ≡ requests task (between (words_of events.now) from to) }
 {
-    let mut n: u32 = 0;
-    let mut p = from;
-    while p < to {
-        let at = p as usize * 4;
-        let kind = word(events, at + 1);
-        let target = word(events, at + 2);
-        n = n + one_if((kind == 1) & (target == task));
-        p += 1;
+    let mut n = 0;
+    for p in from..to {
+        n += u32::from(asks(events, p, task));
     }
     n
-}
-
-fn one_if(b: bool) -> u32
-    ensures value { result ≡ cond b 1 0 }
-    ensures small { result ≤ 1 }
-{
-    if b { 1 } else { 0 }
 }
 
 // All inputs of the task of a row are latched: eight ports, 0 beyond its inputs.
@@ -42,11 +44,9 @@ fn latch_row(rows: &[u32], row: u32, signals: &[u32], latched: &mut [u32])
     ensures { latched.new ≡ latch rows.now row signals.now max_ports 0 latched.old }
 {
     let task = row_field(rows, row, arrays::TASK);
-    let mut p: u32 = 0;
-    while p < limits::PORTS {
+    for p in 0..limits::PORTS {
         let value = latched_at(rows, row, signals, p);
         put(latched, task as usize * arrays::PORTS + p as usize, value);
-        p += 1;
     }
 }
 
@@ -77,14 +77,11 @@ fn is_due(t: u32, offset: u32, period: u32) -> bool
     requires { 0 < period }
     ensures { result ≡ is_due t offset period }
 {
-    if t < offset {
-        return false;
-    }
-    (t - offset) % period == 0
+    offset <= t && (t - offset) % period == 0
 }
 
 // How often the task of a row is asked to start: the release events of the tick, or 1 where a periodic task is due.
-fn asked_of(rows: &[u32], row: u32, events: &[u8], moment: Instant) -> u32
+pub fn asked_of(rows: &[u32], row: u32, events: &[u8], moment: Instant) -> u32
     ensures { result ≡ asked_of moment.t rows.now (between (words_of events.now) moment.first moment.last) row }
 {
     let task = row_field(rows, row, arrays::TASK);
@@ -93,30 +90,18 @@ fn asked_of(rows: &[u32], row: u32, events: &[u8], moment: Instant) -> u32
         return requests_of(events, moment.first, moment.last, task);
     }
     let offset = row_field(rows, row, arrays::OFFSET);
-    one_if(is_due(moment.t, offset, period))
+    u32::from(is_due(moment.t, offset, period))
 }
 
-// So many records of kind 5.
+// So many records of an event that is ignored.
 fn ignore(t: u32, task: u32, count: u32, trace: &mut [u32], from: usize) -> usize
     requires { from < 2 ^ 63 }
     ensures { Ignored trace.old trace.new from result count (entry t ignored_kind task) }
 {
     let mut at = from;
-    let mut k: u32 = 0;
-    while k < count {
-        trace::put(
-            trace,
-            at,
-            Entry {
-                instant: t,
-                kind: 5,
-                task,
-                signal: 0,
-                value: 0,
-            },
-        );
-        at = at + 5;
-        k += 1;
+    for _ in 0..count {
+        trace::put(trace, at, Entry::new(t, Kind::Ignored, task));
+        at += 5;
     }
     at
 }
@@ -134,14 +119,12 @@ fn start_row(
 {
     let task = row_field(rows, row, arrays::TASK);
     let execution = row_field(rows, row, arrays::EXECUTION);
-    let at = task as usize * arrays::FIELDS;
-    put(tasks, at, arrays::ACTIVE);
-    put(tasks, at + 1, execution);
-    put(tasks, at + 2, t);
+    writes::start_task(tasks, task, execution, t);
     latch_row(rows, row, signals, latched);
 }
 
 // The task of a row, asked to start so many times, is released, with a record of it; all times but the first are ignored.
+#[tactic(auto, unfolding(steps::specs::Flat::answer_row, trace::specs::Trace::over))]
 fn release_row(
     rows: &[u32],
     row: u32,
@@ -160,17 +143,7 @@ fn release_row(
 {
     let task = row_field(rows, row, arrays::TASK);
     start_row(rows, row, t, signals, tasks, latched);
-    trace::put(
-        trace,
-        from,
-        Entry {
-            instant: t,
-            kind: 1,
-            task,
-            signal: 0,
-            value: 0,
-        },
-    );
+    trace::put(trace, from, Entry::new(t, Kind::Release, task));
     ignore(t, task, asked - 1, trace, from + 5)
 }
 
@@ -216,17 +189,7 @@ fn grant_row(
     if period == 0 {
         return ignore(t, task, asked, trace, from);
     }
-    trace::put(
-        trace,
-        from,
-        Entry {
-            instant: t,
-            kind: 4,
-            task,
-            signal: 0,
-            value: 0,
-        },
-    );
+    trace::put(trace, from, Entry::new(t, Kind::Overrun, task));
     writes::reset_task(tasks, task, arrays::ERROR);
     from + 5
 }
@@ -250,10 +213,10 @@ pub fn releases(
     ensures near { result ≤ from + 2 ^ 39 }
 {
     let mut at = from;
-    let mut j = turns::next(calls, 0);
-    while j < count {
-        at = grant_row(rows, j, events, moment, signals, tasks, latched, trace, at);
-        j = turns::next(calls, j + 1);
+    for row in turns::rows(calls, count) {
+        at = grant_row(
+            rows, row, events, moment, signals, tasks, latched, trace, at,
+        );
     }
     at
 }

@@ -11,8 +11,7 @@ use Rattle.lists.proofs.Laws.{cut_take, cut_drop}
 use Rattle.words.specs.Words.{words_of}
 use Rattle.words.proofs.Laws.{part-words}
 use Rattle.plan.specs.File.{Task, task_of, body_part}
-use Rattle.body.specs.Body.{body, leaves}
-use Rattle.body.specs.declared.Result.{Result}
+use Rattle.body.specs.Body.{Result, body, leaves}
 use Rattle.arrays.specs.Arrays.{Arrays, Step, Does, ready, finished, field, row_field}
 use Rattle.steps.specs.Flat.{task_of_row, reset, row_writes, write_row, ports_of, with_ports, finish_task, work}
 use Rattle.writes.specs.Writes.{Wrote}

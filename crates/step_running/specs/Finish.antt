@@ -1,6 +1,6 @@
 -- What running a body comes to over the lent arrays: what steps/specs/Flat.antt says of it, array by array.
 use Rattle.std.specs.Prelude.{ℕ, ◌≡◌, List}
-use Rattle.body.specs.declared.Result.{Result}
+use Rattle.body.specs.Body.{Result}
 use Rattle.arrays.specs.Arrays.{Arrays}
 use Rattle.steps.specs.Flat.{with_ports, finish_task}
 

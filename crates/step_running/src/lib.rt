@@ -1,7 +1,7 @@
 // Document 01, 'One tick', step 3 over the lent arrays: the most urgent ACTIVE task runs for a tick.
 #![tactic(auto)]
 
-ghost use Rattle.std.specs.Prelude.{◌≡◌, ◌+◌, ◌-◌, ◌<◌, ◌≤◌, ◌^◌, min};
+ghost use Rattle.std.specs.Prelude.{◌≡◌, ◌+◌, ◌<◌, ◌≤◌, ◌^◌};
 ghost use Rattle.limits.specs.Limits.{max_tasks};
 ghost use Rattle.words.specs.Words.{words_of};
 ghost use Rattle.plan.specs.File.{task_of, body_part};
@@ -14,25 +14,18 @@ ghost use Rattle.step_running.specs.Finish.{Ran, Finished};
 use arrays::{put, row_field, task_field};
 use writes::{reset_task, write_row};
 
-const PORTS: usize = limits::PORTS as usize;
-
-fn smaller(a: usize, b: usize) -> usize
-    ensures { result ≡ min a b }
-{
-    if a <= b { a } else { b }
-}
-
 // A task's body on its latched inputs and held outputs: the machine state that it leaves. The ports are cut to those that there
 // are, so that nothing need be known of the task number.
 fn run_ports(part: &[u8], task: u32, machine: u32, latched: &[u32], held: &mut [u32]) -> u32
     requires { Whole part.now }
     ensures { Ran (body (task_of (words_of part.now)) (ports_of latched.now task) machine (ports_of held.old task)) task held.old held.new result }
 {
-    let at = task as usize * PORTS;
-    let first = smaller(at, latched.len());
-    let last = smaller(at + PORTS, latched.len());
-    let start = smaller(at, held.len());
-    let end = smaller(at + PORTS, held.len());
+    let at = task as usize * arrays::PORTS;
+    let past = at + arrays::PORTS;
+    let first = at.min(latched.len());
+    let last = past.min(latched.len());
+    let start = at.min(held.len());
+    let end = past.min(held.len());
     body::run_lent(part, &latched[first..last], machine, &mut held[start..end])
 }
 
@@ -47,13 +40,6 @@ fn finish_task(plan: &[u8], task: u32, tasks: &mut [u32], latched: &[u32], held:
     put(tasks, at, arrays::FINISHED);
     put(tasks, at + 1, 0);
     put(tasks, at + 3, next);
-}
-
-// One less, and 0 of 0.
-fn one_less(n: u32) -> u32
-    ensures { result ≡ n - 1 }
-{
-    if n == 0 { 0 } else { n - 1 }
 }
 
 // The task of a row runs for a tick; the word at which its records end.
@@ -77,7 +63,7 @@ fn work_row(
 {
     let task = row_field(rows, row, arrays::TASK);
     let deadline = row_field(rows, row, arrays::DEADLINE);
-    let rest = one_less(task_field(tasks, task, arrays::REMAINING));
+    let rest = task_field(tasks, task, arrays::REMAINING).saturating_sub(1);
     if rest != 0 {
         put(tasks, task as usize * arrays::FIELDS + 1, rest);
         return from;
@@ -92,6 +78,7 @@ fn work_row(
 }
 
 // Step 3: the most urgent ACTIVE task runs for a tick, where there is one; the word at which its records end.
+#[tactic(auto, unfolding(steps::specs::Flat::runs_flat, trace::specs::Trace::over))]
 pub fn run_urgent(
     plan: &[u8],
     rows: &[u32],

@@ -6,13 +6,11 @@ use Rattle.marks.specs.Marks.{has}
 use Rattle.lists.specs.Lists.{tab}
 use Rattle.plan.specs.File.{task_of, body_of, body_part}
 use Rattle.events.specs.Events.{Event, event_of}
-use Rattle.body.specs.Body.{body}
+use Rattle.body.specs.Body.{Result, body}
 use Rattle.body.specs.Steps.{Whole}
-use Rattle.body.specs.declared.Result.{Result}
 use Rattle.trace.specs.Trace.{release_kind, miss_kind, overrun_kind, ignored_kind, entry, write_entry}
 use Rattle.trace.specs.declared.Entry.{Entry}
-use Rattle.state.specs.declared.Status.{Status}
-use Rattle.state.specs.declared.Status.TheVariants.{READY, ACTIVE, FINISHED, ERROR}
+use Rattle.state.specs.Numbers.{status_of}
 use Rattle.arrays.specs.Arrays.{Arrays, Step, still, ready, active, finished, error, field, with_field, row_field, row_deadline, row_execution, row_input_count, row_inputs, row_offset, row_output_count, row_outputs, row_period, row_task}
 use Rattle.tick.specs.Turns.{Write, requests, Call, released, overrun, ignored, periodic_call, event_call}
 use Rattle.tick.specs.Tick.{write_all}
@@ -28,13 +26,6 @@ each_row act (suc n) j a =
 -- the turn of a row whose bit stands in a word; any other row does nothing
 abbrev pub called : ℕ → (ℕ → Arrays → Step) → ℕ → Arrays → Step
 called calls act j a = cond (has calls j) (act j a) (still a)
-
--- the status that a number stands for
-unfoldable pub status_of : ℕ → Status
-status_of zero = READY
-status_of (suc zero) = ACTIVE
-status_of (suc (suc zero)) = FINISHED
-status_of (suc (suc (suc n))) = ERROR
 
 -- the fields of a row
 abbrev pub task_of_row : List ℕ → ℕ → ℕ

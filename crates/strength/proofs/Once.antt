@@ -1,14 +1,12 @@
 -- "that no second answer satisfies it is proved": what the contract of a public function asks of a result, one result has.
 use Prim.Native.Nat.{ℕ}
 use mathlib.Core.Path.{◌≡◌, sym, ap, ◌∙◌}
-use Rattle.answers.specs.Answers.{said}
-use Rattle.answers.specs.declared.Answer.{Answer}
+use Rattle.answers.specs.Answers.{said, Answer}
 use Rattle.answers.proofs.Laws.{said-once}
 use Rattle.state.specs.declared.State.{State}
 use Rattle.kernel.specs.declared.Started.{Started}
 use Rattle.kernel.specs.declared.Outcome.{Outcome}
-use Rattle.strength.specs.Once.{OneResultMeetsAnEquation, OneAnswerMeetsAVerdict, OnePartMeetsTheBodyReadersContract}
-use Rattle.strength.specs.Once.{OneAnswerMeetsTheFreshStartsContract, OneOutcomeMeetsTheRunsContract, OneOutcomeMeetsTheTicksContract}
+use Rattle.strength.specs.Once.{OneResultMeetsAnEquation, OneAnswerMeetsAVerdict, OnePartMeetsTheBodyReadersContract, OneAnswerMeetsTheFreshStartsContract, OneOutcomeMeetsTheRunsContract, OneOutcomeMeetsTheTicksContract}
 
 -- both are that value
 pub result_once : OneResultMeetsAnEquation

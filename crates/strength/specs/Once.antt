@@ -2,8 +2,7 @@
 -- state and trace to the last word; that no second answer satisfies it is proved".
 use Rattle.std.specs.Prelude.{ℕ, ◌≡◌, List}
 use Rattle.std.specs.Borrow.{Bor}
-use Rattle.answers.specs.Answers.{Verdict, said}
-use Rattle.answers.specs.declared.Answer.{Answer}
+use Rattle.answers.specs.Answers.{Verdict, said, Answer}
 use Rattle.plan_body.specs.Body.{Handed}
 use Rattle.state.specs.declared.State.{State}
 use Rattle.kernel.specs.Call.{Starts, Runs}

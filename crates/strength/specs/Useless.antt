@@ -1,16 +1,14 @@
 -- Document 01, 'Strength of the contracts': "Four useless kernels have to be shut out", "Invented counts of ticks or records are
 -- shut out", "a silent kernel can't satisfy it". What meets the contracts on P1, and on P6 beside it, is none of them.
-use Rattle.std.specs.Prelude.{ℕ, suc, ◌≤◌, ◌≡◌, ◌≢◌, true, List, length}
+use Rattle.std.specs.Prelude.{Ok, ℕ, suc, ◌≤◌, ◌≡◌, ◌≢◌, true, List, length}
 use Rattle.answers.specs.Answers.{said}
-use Rattle.answers.specs.declared.Answer.TheVariants.{Accepted}
 use Rattle.trace.specs.Trace.{trace_after}
 use Rattle.kernel.specs.Call.{start_state, Starts, CallResult, call, Runs}
 use Rattle.kernel.specs.declared.Started.{Started}
 use Rattle.kernel.specs.declared.Outcome.{Outcome}
 use Rattle.zero.specs.Zero.{zero_run, CallReads}
 use Rattle.marked.specs.Marked.{Marked}
-use Rattle.strength.specs.Strength.{one, other, room_needed, RunsFresh, Counts, Kernel, ran_on, left_on, MeetsOn}
-use Rattle.strength.specs.Strength.{RefusesEveryPlan, RefusesEveryRun, FixedTrace, PassesTheState, CopiesAfterTheFirst, CopiesLater, speaks, Silent}
+use Rattle.strength.specs.Strength.{one, other, room_needed, RunsFresh, Counts, Kernel, ran_on, left_on, MeetsOn, RefusesEveryPlan, RefusesEveryRun, FixedTrace, PassesTheState, CopiesAfterTheFirst, CopiesLater, speaks, Silent}
 
 -- ---- the contracts can be met, so that nothing below speaks of nothing
 -- what so many ticks of an example come to, from the fresh state on
@@ -19,7 +17,7 @@ ran m n = call m.plan m.events (start_state m.plan) n room_needed
 
 -- an outcome that says what a run comes to, with number 0
 abbrev pub accepting : CallResult → Outcome
-accepting x = record { answer = Accepted; ticks = x.ticks; records = length x.entries; state = x.state }
+accepting x = record { answer = Ok tt; ticks = x.ticks; records = length x.entries; state = x.state }
 
 -- with it, and the run's records in the trace, the contract of the run is met
 abbrev pub MetOn : Marked → ℕ → List ℕ → Type 0

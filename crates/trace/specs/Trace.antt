@@ -1,6 +1,8 @@
 -- Document 01, 'Trace and printing'.
 use Rattle.std.specs.Prelude.{ℕ, zero, suc, ◌+◌, ◌*◌, cond, List, [], ◌∷◌, ◌++◌, length, get_or, set, drop, leb, ltb, eqb}
 use Rattle.trace.specs.declared.Entry.{Entry}
+use Rattle.trace.specs.declared.Kind.{Kind}
+use Rattle.trace.specs.declared.Kind.TheVariants.{Release, Write, Miss, Overrun, Ignored}
 
 -- "Kinds: 1 release, 2 write (one for each output, in position order), 3 deadline missed, 4 due while ACTIVE, 5 event ignored (one each)."
 abbrev pub release_kind : ℕ
@@ -17,6 +19,13 @@ overrun_kind = 4
 
 abbrev pub ignored_kind : ℕ
 ignored_kind = 5
+
+abbrev pub number_of : Kind → ℕ
+number_of Release = release_kind
+number_of Write = write_kind
+number_of Miss = miss_kind
+number_of Overrun = overrun_kind
+number_of Ignored = ignored_kind
 
 -- "Signal and value are 0 except in 2."
 abbrev pub entry : ℕ → ℕ → ℕ → Entry

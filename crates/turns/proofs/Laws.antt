@@ -154,3 +154,7 @@ module _ (w from r : ℕ) (e : r ≡ least (has w) 32 from) where
   -- and its own does
   pub next_at : r < 32 → has w r ≡ true
   next_at h = rw e (least_at (has w) 32 from (let l = next_from in omega (arith, e, h, l)))
+
+-- where there is no next below a number, no bit stands below it
+pub none_below : (w from n : ℕ) → n ≤ least (has w) 32 from → (i : ℕ) → from ≤ i → i < n → has w i ≡ false
+none_below w from n h i f l = least-below (has w) 32 from i f (omega (arith, h, l))

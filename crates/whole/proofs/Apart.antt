@@ -17,9 +17,9 @@ use Rattle.state.specs.declared.Status.{Status}
 use Rattle.state.specs.declared.Status.TheVariants.{READY, ACTIVE, FINISHED, ERROR}
 use Rattle.state.specs.declared.TaskState.{TaskState}
 use Rattle.state.specs.declared.State.{State}
+use Rattle.state.specs.Numbers.{status_of, number_of}
 use Rattle.arrays.specs.Arrays.{field, Sized}
-use Rattle.steps.specs.Flat.{status_of}
-use Rattle.whole.specs.Whole.{ports_in, task_in, whole, number_of, four_of, off_each, apart}
+use Rattle.whole.specs.Whole.{ports_in, task_in, whole, four_of, off_each, apart}
 use Rattle.whole.proofs.Laws.{get_or-all}
 
 pub status_same : (s : Status) → status_of (number_of s) ≡ s

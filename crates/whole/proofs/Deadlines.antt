@@ -18,10 +18,11 @@ use Rattle.trace.specs.Trace.{miss_kind, entry}
 use Rattle.trace.specs.declared.Entry.{Entry}
 use Rattle.state.specs.declared.Status.TheVariants.{READY}
 use Rattle.state.specs.declared.TaskState.{TaskState}
+use Rattle.state.specs.Numbers.{status_of}
 use Rattle.arrays.specs.Arrays.{Arrays, Step, still, ready, active, finished, error, field, row_field, Sized}
 use Rattle.tick.specs.Turns.{Write, becomes, writes_of, write_out, fail, deadline_of, deadline_turn}
 use Rattle.tick.specs.Tick.{write_all, visit, each}
-use Rattle.steps.specs.Flat.{each_row, status_of, task_of_row, reset, row_writes, write_entries, write_row, fail_row, ends_now, lapse}
+use Rattle.steps.specs.Flat.{each_row, task_of_row, reset, row_writes, write_entries, write_row, fail_row, ends_now, lapse}
 use Rattle.whole.specs.Whole.{ports_in, task_in, whole, moment_of, RowOf, Rows}
 use Rattle.whole.proofs.Laws.{get_or-all, read, change, after, landed, keeps, IsRow, turns_in_order, turns_in_order_leave}
 use Rattle.whole.proofs.Fields.{three, three_stored, three_other, task_same}

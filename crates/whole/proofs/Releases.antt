@@ -15,10 +15,11 @@ use Rattle.trace.specs.Trace.{release_kind, overrun_kind, ignored_kind, entry}
 use Rattle.trace.specs.declared.Entry.{Entry}
 use Rattle.state.specs.declared.Status.{Status}
 use Rattle.state.specs.declared.TaskState.{TaskState}
+use Rattle.state.specs.Numbers.{status_of}
 use Rattle.arrays.specs.Arrays.{Arrays, active, row_field, Sized}
 use Rattle.tick.specs.Turns.{requests, release, Call, released, overrun, ignored, periodic_call, event_call, call_of, waits, answer, release_turn}
 use Rattle.tick.specs.Tick.{write_all, visit, each}
-use Rattle.steps.specs.Flat.{each_row, status_of, task_of_row, latch, is_due, call_of_row, answer_row, grant}
+use Rattle.steps.specs.Flat.{each_row, task_of_row, latch, is_due, call_of_row, answer_row, grant}
 use Rattle.whole.specs.Whole.{task_in, whole, moment_of, RowOf, Rows}
 use Rattle.whole.proofs.Laws.{read, change, after, landed, keeps, IsRow, turns_in_order, turns_in_order_leave}
 use Rattle.whole.proofs.Fields.{task_same}

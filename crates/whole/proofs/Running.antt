@@ -21,16 +21,16 @@ use Rattle.plan.proofs.Laws.{tasks_length}
 use Rattle.plan.proofs.Facts.{accepted, task_is, priority_once}
 use Rattle.plan.proofs.Order.{Perm, order_below, order-sorted}
 use Rattle.plan_schedule.proofs.Accepted.{accepted_perm}
-use Rattle.body.specs.Body.{body}
-use Rattle.body.specs.declared.Result.{Result}
+use Rattle.body.specs.Body.{Result, body}
 use Rattle.body.proofs.Laws.{body-length}
 use Rattle.trace.specs.declared.Entry.{Entry}
 use Rattle.state.specs.State.{state_at}
 use Rattle.state.specs.declared.TaskState.{TaskState}
+use Rattle.state.specs.Numbers.{status_of}
 use Rattle.arrays.specs.Arrays.{Arrays, Step, still, active, finished, field, with_field, row_field, Sized}
 use Rattle.tick.specs.Turns.{quiet, finish, write_out, is_active, loses, run_turn}
 use Rattle.tick.specs.Tick.{write_all, running, visit_if, runs}
-use Rattle.steps.specs.Flat.{status_of, task_of_row, write_row, ports_of, body_left, finish_task, work, first_active}
+use Rattle.steps.specs.Flat.{task_of_row, write_row, ports_of, body_left, finish_task, work, first_active}
 use Rattle.whole.specs.Whole.{ports_in, task_in, whole, moment_of, RowOf, Rows}
 use Rattle.whole.proofs.Laws.{read, change, after, landed}
 use Rattle.whole.proofs.Fields.{stored, stored_other, three_stored, three_other, task_same}

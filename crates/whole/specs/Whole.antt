@@ -5,13 +5,12 @@ use Rattle.lists.specs.Lists.{tab}
 use Rattle.plan.specs.File.{Task, Plan, task_at}
 use Rattle.plan.specs.Order.{order}
 use Rattle.trace.specs.declared.Entry.{Entry}
-use Rattle.state.specs.declared.Status.{Status}
-use Rattle.state.specs.declared.Status.TheVariants.{READY, ACTIVE, FINISHED, ERROR}
 use Rattle.state.specs.declared.TaskState.{TaskState}
 use Rattle.state.specs.declared.State.{State}
-use Rattle.arrays.specs.Arrays.{Arrays, ready, active, finished, error, field, row_field, row_deadline, row_execution, row_input_count, row_inputs, row_offset, row_output_count, row_outputs, row_period}
+use Rattle.state.specs.Numbers.{status_of, number_of}
+use Rattle.arrays.specs.Arrays.{Arrays, field, row_field, row_deadline, row_execution, row_input_count, row_inputs, row_offset, row_output_count, row_outputs, row_period}
 use Rattle.tick.specs.Tick.{Moment}
-use Rattle.steps.specs.Flat.{status_of, task_of_row}
+use Rattle.steps.specs.Flat.{task_of_row}
 
 -- ---- the state that the arrays hold
 -- the eight ports of task i
@@ -37,13 +36,6 @@ abbrev pub moment_of : Arrays → List Entry → Moment
 moment_of a entries = record { signals = a.signals; tasks = whole a; entries = entries }
 
 -- ---- the arrays of a state
--- the number that stands for a status
-unfoldable pub number_of : Status → ℕ
-number_of READY = ready
-number_of ACTIVE = active
-number_of FINISHED = finished
-number_of ERROR = error
-
 -- the four numbers of a task
 abbrev pub four_of : TaskState → List ℕ
 four_of x = number_of x.status ∷ x.remaining ∷ x.release ∷ x.machine ∷ []

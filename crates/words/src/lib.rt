@@ -1,22 +1,15 @@
 // Words of 4 bytes, lowest byte first: the numbers that plan files and event lists are made of.
 #![tactic(auto)]
 
-ghost use Rattle.std.specs.Prelude.{◌≡◌, ◌+◌, ◌*◌, ◌≤◌, min, length};
-ghost use Rattle.words.specs.Words.{joined, four_at, word_at, part_of};
-
-// Four bytes as one number. Sums and products instead of shifts: the compiler makes one load of them.
-fn join(a: u8, b: u8, c: u8, d: u8) -> u32
-    ensures { result ≡ joined a b c d }
-{
-    (a as u32) + (b as u32) * 256 + (c as u32) * 65536 + (d as u32) * 16777216
-}
+ghost use Rattle.std.specs.Prelude.{◌≡◌, ◌+◌, ◌*◌, ◌≤◌, length};
+ghost use Rattle.words.specs.Words.{four_at, word_at, part_of};
 
 // The four bytes from k on.
 fn four(bytes: &[u8], k: usize) -> u32
     requires { k + 4 ≤ length bytes.now }
     ensures { result ≡ four_at bytes.now k }
 {
-    join(bytes[k], bytes[k + 1], bytes[k + 2], bytes[k + 3])
+    u32::from_le_bytes([bytes[k], bytes[k + 1], bytes[k + 2], bytes[k + 3]])
 }
 
 // Word i, and 0 where no whole word i is left: total, so that no reader of a damaged file can stray.
@@ -39,18 +32,13 @@ pub fn known(bytes: &[u8], i: usize) -> u32
     four(bytes, start)
 }
 
-fn smaller(a: usize, b: usize) -> usize
-    ensures { result ≡ min a b }
-{
-    if a <= b { a } else { b }
-}
-
 // The part of the bytes that starts at a word and has a size in words, cut to the words that there are.
+#[tactic(auto, unfolding(crate::specs::Words::part_of))]
 pub fn part(bytes: &[u8], start: u32, size: u32) -> &[u8]
     ensures { result.now ≡ part_of bytes.now start size }
 {
     let words = bytes.len() / 4;
-    let first = smaller(start as usize, words);
-    let count = smaller(size as usize, words - first);
+    let first = (start as usize).min(words);
+    let count = (size as usize).min(words - first);
     &bytes[first * 4..(first + count) * 4]
 }

@@ -1,8 +1,9 @@
-// Document 01, 'One tick', what its steps share over the lent arrays: the writing of held outputs (steps 1 and 3), and the reset
-// of a task (steps 1, 2 and 3).
+// Document 01, 'One tick', what its steps share over the lent arrays: the writing of held outputs (steps 1 and 3), the reset of a
+// task (steps 1, 2 and 3), and its start (step 2).
 #![tactic(auto)]
 
 ghost use Rattle.std.specs.Prelude.{◌≡◌, ◌+◌, ◌<◌, ◌≤◌, ◌^◌};
+ghost use Rattle.arrays.specs.Arrays.{active, with_field};
 ghost use Rattle.steps.specs.Flat.{task_of_row, reset, row_writes};
 ghost use Rattle.writes.specs.Writes.{Wrote};
 
@@ -26,27 +27,15 @@ pub fn write_row(
     let task = row_field(rows, row, arrays::TASK);
     let count = row_field(rows, row, arrays::OUTPUT_COUNT);
     let mut at = from;
-    let mut p: u32 = 0;
-    while p < count {
+    for p in 0..count {
         let signal = get(
             rows,
             row as usize * arrays::WIDTH + (arrays::OUTPUTS + p as usize),
         );
         let value = get(held, task as usize * arrays::PORTS + p as usize);
         put(signals, signal as usize, value);
-        trace::put(
-            trace,
-            at,
-            Entry {
-                instant: t,
-                kind: 2,
-                task,
-                signal,
-                value,
-            },
-        );
-        at = at + 5;
-        p += 1;
+        trace::put(trace, at, Entry::write(t, task, signal, value));
+        at += 5;
     }
     at
 }
@@ -59,4 +48,14 @@ pub fn reset_task(tasks: &mut [u32], task: u32, status: u32)
     put(tasks, at, status);
     put(tasks, at + 1, 0);
     put(tasks, at + 2, 0);
+}
+
+// A task becomes ACTIVE: so many ticks to go, released at t.
+pub fn start_task(tasks: &mut [u32], task: u32, execution: u32, t: u32)
+    ensures { tasks.new ≡ with_field (with_field (with_field tasks.old task 0 active) task 1 execution) task 2 t }
+{
+    let at = task as usize * arrays::FIELDS;
+    put(tasks, at, arrays::ACTIVE);
+    put(tasks, at + 1, execution);
+    put(tasks, at + 2, t);
 }

@@ -15,8 +15,7 @@ use Rattle.plan.specs.File.{Task, Plan, no_task, task_at, all_outputs}
 use Rattle.plan.specs.Order.{numbers, with_priority, in_order, order}
 use Rattle.plan.proofs.Order.{Perm}
 use Rattle.events.specs.Events.{Event}
-use Rattle.body.specs.Body.{body, supervise, control}
-use Rattle.body.specs.declared.Result.{Result}
+use Rattle.body.specs.Body.{Result, body, supervise, control}
 use Rattle.state.specs.State.{state_at, value_at, pad, fresh_task, fresh}
 use Rattle.state.specs.Steps.{fresh_at}
 use Rattle.state.proofs.Laws.{fresh-task_at}

@@ -1,12 +1,11 @@
 -- The plans, events and calls that instances are computed of: document 01's sample with some of its numbers open, and a supervisor
 -- that events release.
+use Rattle.std.specs.Prelude.{Ok}
 use Prim.Native.Nat.{ℕ, ◌/◌, ◌%◌}
 use mathlib.Core.Path.{◌≡◌, refl}
 use mathlib.Core.List.{List, [], ◌∷◌}
 use lib.ListN.{length, replicate}
-use Rattle.answers.specs.Answers.{said}
-use Rattle.answers.specs.declared.Answer.{Answer}
-use Rattle.answers.specs.declared.Answer.TheVariants.{Accepted}
+use Rattle.answers.specs.Answers.{said, Answer}
 use Rattle.plan.specs.File.{plan_of}
 use Rattle.trace.specs.Trace.{trace_after}
 use Rattle.state.specs.State.{fresh}
@@ -65,7 +64,7 @@ sets_at0 signal = bytes_of (0 ∷ 2 ∷ signal ∷ 7 ∷ [])
 
 -- ---- a fresh start, and calls from a state on with a lent trace of so many words
 abbrev pub started : List ℕ → Started
-started bytes = record { answer = Accepted; state = fresh (plan_of bytes) }
+started bytes = record { answer = Ok tt; state = fresh (plan_of bytes) }
 
 -- so many words of trace
 abbrev pub room : ℕ → List ℕ

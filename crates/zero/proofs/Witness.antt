@@ -1,5 +1,6 @@
 -- The theorems are not empty, and need what they ask: document 01's sample plan P1, P4 beside it, a supervisor under events, and two
 -- plans for which the conclusion is false: P3, where task 0 misses, and the sample with deadline 0.
+use Rattle.std.specs.Prelude.{Ok}
 use Prim.Native.Nat.{ℕ, zero, suc, ◌<◌}
 use mathlib.Core.Path.{◌≡◌, refl, sym, ap, ◌∙◌}
 use mathlib.Core.Logic.{◌≢◌}
@@ -11,7 +12,6 @@ use lib.Dec.{eqb}
 use Rattle.lists.specs.Lists.{all}
 use Rattle.lists.proofs.Tests.{all-iff, not_iff, every_append}
 use Rattle.answers.specs.Answers.{verdict}
-use Rattle.answers.specs.declared.Answer.TheVariants.{Accepted}
 use Rattle.plan.specs.File.{plan_of, task_at}
 use Rattle.plan.specs.Rules.{plan_verdict}
 use Rattle.trace.specs.Trace.{miss_kind, before}
@@ -27,7 +27,7 @@ use Rattle.zero.proofs.Sample.{p0, p1, p3, p4, supervisor_with, released, starte
 -- one after the other from a state on
 abbrev calls_from : List ℕ → List ℕ → State → List ℕ → List Called
 calls_from bytes events s [] = []
-calls_from bytes events s (n ∷ ns) = called Accepted bytes events s n 100 ∷ calls_from bytes events (ran bytes events s n 100).state ns
+calls_from bytes events s (n ∷ ns) = called (Ok tt) bytes events s n 100 ∷ calls_from bytes events (ran bytes events s n 100).state ns
 
 -- and from the fresh state on
 abbrev calls : List ℕ → List ℕ → List ℕ → List Called
@@ -41,7 +41,7 @@ AllRun bytes events s (n ∷ ns) = ((ran bytes events s n 100).verdict ≡ verdi
 -- then they are what the entry gives
 turns_of : (bytes events : List ℕ) (s : State) (ns : List ℕ) → AllRun bytes events s ns → InTurn bytes events s (calls_from bytes events s ns)
 turns_of bytes events s [] h = tt
-turns_of bytes events s (n ∷ ns) h = (runs_of Accepted bytes events s n 100 (sym h.0), turns_of bytes events (ran bytes events s n 100).state ns h.1)
+turns_of bytes events s (n ∷ ns) h = (runs_of (Ok tt) bytes events s n 100 (sym h.0), turns_of bytes events (ran bytes events s n 100).state ns h.1)
 
 -- and the fresh start is what its entry gives
 starts_of : (bytes : List ℕ) → plan_verdict bytes ≡ verdict 0 0 → Starts bytes (started bytes)
@@ -134,13 +134,13 @@ service {bytes} {events} {ns} c =
     record { starts = starts_of bytes c.accepted; accepted = refl; in_turn = turns_of bytes events (fresh (plan_of bytes)) ns c.runs }
 
 -- P4 in one call
-pub p4-reads : let c = called Accepted p4 [] (fresh (plan_of p4)) 12 100 in CallReads p4 [] c.lent c.left c.outcome
+pub p4-reads : let c = called (Ok tt) p4 [] (fresh (plan_of p4)) 12 100 in CallReads p4 [] c.lent c.left c.outcome
 unfolding all_records
 p4-reads =
     let c = computed.1 in
     let s = fresh (plan_of p4) in
-    one-call p4 [] (started p4) (starts_of p4 c.accepted) refl (with_deadlines p4 c.has-deadlines) 12 _ _ _ (runs_of Accepted p4 [] s 12 100 (sym c.runs.0))
-    (every_append (λ e. e.kind ≢ miss_kind) (records_of (called Accepted p4 [] s 12 100)) [] (fine _ c.no_miss)).0
+    one-call p4 [] (started p4) (starts_of p4 c.accepted) refl (with_deadlines p4 c.has-deadlines) 12 _ _ _ (runs_of (Ok tt) p4 [] s 12 100 (sym c.runs.0))
+    (every_append (λ e. e.kind ≢ miss_kind) (records_of (called (Ok tt) p4 [] s 12 100)) [] (fine _ c.no_miss)).0
 
 -- 5 ticks of it are run where 12 are
 five_run : (ran p4 [] (fresh (plan_of p4)) 5 100).verdict ≡ verdict 0 0
@@ -153,15 +153,15 @@ unfolding computing_sample
 twelve_run = refl
 
 -- so asked for 5 ticks instead it reads them
-pub p4-asked_for_5 : let c = called Accepted p4 [] (fresh (plan_of p4)) 5 100 in (c.outcome.ticks ≡ 5) × (c.outcome.state.signals ≡ (zero_run p4 [] 5).state.signals)
+pub p4-asked_for_5 : let c = called (Ok tt) p4 [] (fresh (plan_of p4)) 5 100 in (c.outcome.ticks ≡ 5) × (c.outcome.state.signals ≡ (zero_run p4 [] 5).state.signals)
 unfolding all_records
 p4-asked_for_5 =
     let c = computed.1 in
     let s = fresh (plan_of p4) in
     let all = twelve_run in
-    after-each_tick p4 [] (started p4) (starts_of p4 c.accepted) refl (with_deadlines p4 c.has-deadlines) 12 _ _ _ (runs_of Accepted p4 [] s 12 100 (sym c.runs.0))
-    (every_append (λ e. e.kind ≢ miss_kind) (records_of (called Accepted p4 [] s 12 100)) [] (fine _ c.no_miss)).0
-    5 (omega arith) _ _ (runs_of Accepted p4 [] s 5 100 (sym five_run))
+    after-each_tick p4 [] (started p4) (starts_of p4 c.accepted) refl (with_deadlines p4 c.has-deadlines) 12 _ _ _ (runs_of (Ok tt) p4 [] s 12 100 (sym c.runs.0))
+    (every_append (λ e. e.kind ≢ miss_kind) (records_of (called (Ok tt) p4 [] s 12 100)) [] (fine _ c.no_miss)).0
+    5 (omega arith) _ _ (runs_of (Ok tt) p4 [] s 5 100 (sym five_run))
 
 -- P1 in two calls
 pub p1-reads : ServiceReads p1 [] (started p1) (calls p1 [] (5 ∷ 7 ∷ []))

@@ -80,8 +80,7 @@ impl Ended {
     }
 }
 
-/// A file without a name, to print to. The programs print number by number, and into a pipe, where each number wakes the reader,
-/// that takes several times as long.
+/// A file without a name, to print to: into a pipe, each line of a program wakes the reader.
 fn nameless() -> File {
     static MADE: AtomicUsize = AtomicUsize::new(0);
     let name = format!("driver-{}-{}", std::process::id(), MADE.fetch_add(1, Ordering::Relaxed));

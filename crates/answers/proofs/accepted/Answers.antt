@@ -1,4 +1,5 @@
+use Rattle.answers.proofs.Laws.{ok_is_0}
 use Rattle.answers.proofs.accepted.Goals as goal
 
 pub returns : goal.returns
-returns c = rw c.number.ensures
+returns c = rw (c.is_ok.ensures.value, ok_is_0 c.args.answer)

@@ -1,11 +1,7 @@
-use Prim.Native.Nat.{◌≤◌, ◌-◌}
-use Rattle.limits.specs.Limits.{max_tasks, max_ports}
+use Rattle.limits.specs.Limits.{max_ports}
 use Rattle.whole.specs.Whole.{four_of}
 use Rattle.apart.proofs.Laws.{Stored}
 use Rattle.apart.proofs.take_apart.Given as goal
 
 abbrev pub invariant-loop-i : goal.invariant-loop-i
-invariant-loop-i l = (l.i ≤ max_tasks) × Stored four_of 4 l.states l.i l.tasks × Stored (λ x. x.latched) max_ports l.states l.i l.latched × Stored (λ x. x.held) max_ports l.states l.i l.held
-
-abbrev pub decreases-loop-i : goal.decreases-loop-i
-decreases-loop-i l = max_tasks - l.i
+invariant-loop-i l = Stored four_of 4 l.fn.states l.i l.tasks × Stored (λ x. x.latched) max_ports l.fn.states l.i l.latched × Stored (λ x. x.held) max_ports l.fn.states l.i l.held

@@ -1,32 +1,19 @@
 use native.Mathlib.Nat.{sub-zero}
-use borrow.Author.Rules.{rules}
+use Rattle.std.proofs.lemmas.Result.{err_from_is_err_and}
+use Rattle.answers.proofs.Laws.{refusal_stands}
 use Rattle.events.proofs.Laws.{verdict-more, verdict-done}
 use Rattle.event_check.proofs.all_events.Goals as goal
 
 pub loop-i-init : goal.loop-i-init
-loop-i-init c = (search rules, rw sub-zero)
+loop-i-init c = rw sub-zero
 
-pub returns-then-not-accepted : goal.returns-then-not-accepted
-returns-then-not-accepted c = rw (
-  c.loop-i.invariant.1,
-  verdict-more _ _ _ _ _ c.loop-i-test.true,
-  ← c.one_event-answer.ensures,
-  ← c.accepted.ensures,
-  c.if-not-accepted.true,
-)
+pub returns-in_err-one_event : goal.returns-in_err-one_event
+returns-in_err-one_event c =
+    let p = err_from_is_err_and c.from_residual.result c.from_residual.ensures.1 in
+    rw (p.1, p.2, c.loop-i.invariant, verdict-more _ _ _ _ _ c.loop-i-test.true) (refusal_stands _ _ _ c.in_err-one_event.ensures)
 
 pub loop-i-preserved : goal.loop-i-preserved
-loop-i-preserved c = (
-  search rules,
-  rw (
-    c.loop-i.invariant.1,
-    verdict-more _ _ _ _ _ c.loop-i-test.true,
-    ← c.one_event-answer.ensures,
-    ← c.accepted.ensures,
-    c.if-not-accepted.false,
-    c.known-last.ensures,
-  ),
-)
+loop-i-preserved c = rw (c.loop-i.invariant, verdict-more _ _ _ _ _ c.loop-i-test.true, ← c.in_ok-one_event.ensures, c.known-last.ensures)
 
 pub returns : goal.returns
-returns c = rw (c.loop-i.invariant.1, verdict-done _ _ _ _ _ c.loop-i-test.false)
+returns c = rw (c.loop-i.invariant, verdict-done _ _ _ _ _ c.loop-i-test.false)

@@ -10,8 +10,8 @@ unfolding driven_by
 loop-i-init c = search rules
 
 pub loop-i-preserved : goal.loop-i-preserved
-loop-i-preserved c = (search rules, rw (driven_more, ← c.loop-i.invariant.1) c.with_driven-marks.ensures)
+loop-i-preserved c = (rw (driven_more, ← c.loop-i.invariant) c.with_driven-marks.ensures)
 
 pub returns : goal.returns
 returns c = let all : c.loop-i.i ≡ c.args.tasks = omega arith in
-    c.loop-i.invariant.1 ∙ ap (driven_by _) all
+    c.loop-i.invariant ∙ ap (driven_by _) all

@@ -5,7 +5,4 @@ use Rattle.event_check.specs.Targets.{driven_by}
 use Rattle.event_check.proofs.driven_tasks.Given as goal
 
 abbrev pub invariant-loop-i : goal.invariant-loop-i
-invariant-loop-i l = (l.i ≤ l.tasks) × (l.marks ≡ driven_by (words_of l.plan) l.i)
-
-abbrev pub decreases-loop-i : goal.decreases-loop-i
-decreases-loop-i l = l.tasks - l.i
+invariant-loop-i l = l.marks ≡ driven_by (words_of l.plan) l.i

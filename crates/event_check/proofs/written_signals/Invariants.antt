@@ -8,9 +8,5 @@ use Rattle.event_check.specs.Targets.{written_by}
 use Rattle.event_check.proofs.written_signals.Given as goal
 
 abbrev pub invariant-loop-i : goal.invariant-loop-i
-invariant-loop-i l = (l.i ≤ l.tasks)
-    × (written_by (tab (λ j. task_of (body_of (words_of l.plan) (j + 1))) 0 l.tasks)
-    ≡ mark_all l.marks (all_outputs (tab (λ j. task_of (body_of (words_of l.plan) (j + 1))) l.i (l.tasks - l.i))))
-
-abbrev pub decreases-loop-i : goal.decreases-loop-i
-decreases-loop-i l = l.tasks - l.i
+invariant-loop-i l = written_by (tab (λ j. task_of (body_of (words_of l.plan) (j + 1))) 0 l.tasks)
+    ≡ mark_all l.marks (all_outputs (tab (λ j. task_of (body_of (words_of l.plan) (j + 1))) l.i (l.tasks - l.i)))

@@ -1,31 +1,19 @@
 use native.Mathlib.Nat.{sub-zero}
-use borrow.Author.Rules.{rules}
+use Rattle.std.proofs.lemmas.Result.{err_from_is_err_and}
+use Rattle.answers.proofs.Laws.{refusal_stands}
 use Rattle.plan_check.proofs.Laws.{tasks_more, tasks_done}
 use Rattle.plan_check.proofs.all_tasks.Goals as goal
 
 pub loop-i-init : goal.loop-i-init
-loop-i-init c = (search rules, rw sub-zero)
+loop-i-init c = rw sub-zero
 
-pub returns-then-not-accepted : goal.returns-then-not-accepted
-returns-then-not-accepted c = rw (
-  c.loop-i.invariant.1,
-  tasks_more _ _ _ _ c.loop-i-test.true,
-  ← c.one_task-answer.ensures,
-  ← c.accepted.ensures,
-  c.if-not-accepted.true,
-)
+pub returns-in_err-one_task : goal.returns-in_err-one_task
+returns-in_err-one_task c =
+    let p = err_from_is_err_and c.from_residual.result c.from_residual.ensures.1 in
+    rw (p.1, p.2, c.loop-i.invariant, tasks_more _ _ _ _ c.loop-i-test.true) (refusal_stands _ _ _ c.in_err-one_task.ensures)
 
 pub loop-i-preserved : goal.loop-i-preserved
-loop-i-preserved c = (
-  search rules,
-  rw (
-    c.loop-i.invariant.1,
-    tasks_more _ _ _ _ c.loop-i-test.true,
-    ← c.one_task-answer.ensures,
-    ← c.accepted.ensures,
-    c.if-not-accepted.false,
-  ),
-)
+loop-i-preserved c = rw (c.loop-i.invariant, tasks_more _ _ _ _ c.loop-i-test.true, ← c.in_ok-one_task.ensures)
 
 pub returns : goal.returns
-returns c = rw (c.loop-i.invariant.1, tasks_done _ _ _ _ c.loop-i-test.false)
+returns c = rw (c.loop-i.invariant, tasks_done _ _ _ _ c.loop-i-test.false)

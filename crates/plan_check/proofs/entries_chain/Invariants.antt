@@ -1,4 +1,4 @@
-use Prim.Native.Nat.{◌≤◌, ◌<◌, ◌+◌, ◌*◌, ◌-◌}
+use Prim.Native.Nat.{◌<◌, ◌+◌, ◌*◌, ◌-◌}
 use mathlib.Core.Path.{◌≡◌}
 use mathlib.Core.Bool.{◌&&◌}
 use Rattle.words.specs.Words.{words_of}
@@ -6,8 +6,5 @@ use Rattle.plan.specs.Rules.{chained}
 use Rattle.plan_check.proofs.entries_chain.Given as goal
 
 abbrev pub invariant-loop-k : goal.invariant-loop-k
-invariant-loop-k l = (l.k ≤ l.entries) × (l.at < (l.k + 1) * 4294967296)
+invariant-loop-k l = (l.at < (l.k + 1) * 4294967296)
     × (chained (words_of l.bytes) l.entries 0 (3 + l.entries * 2) ≡ (l.good && chained (words_of l.bytes) (l.entries - l.k) l.k l.at))
-
-abbrev pub decreases-loop-k : goal.decreases-loop-k
-decreases-loop-k l = l.entries - l.k

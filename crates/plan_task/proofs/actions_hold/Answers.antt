@@ -1,13 +1,12 @@
 use native.Mathlib.Nat.{sub-zero}
-use borrow.Author.Rules.{rules}
 use Rattle.lists.proofs.Laws.{all_more, all_done}
 use Rattle.plan_task.proofs.actions_hold.Goals as goal
 
 pub loop-j-init : goal.loop-j-init
-loop-j-init c = (search rules, rw sub-zero)
+loop-j-init c = rw sub-zero
 
 pub loop-j-preserved : goal.loop-j-preserved
-loop-j-preserved c = (search rules, rw (c.loop-j.invariant.1, all_more _ _ _ _ _ c.loop-j-test.true, c.action_holds-one.ensures))
+loop-j-preserved c = rw (c.loop-j.invariant, all_more _ _ _ _ _ c.loop-j-test.true, c.action_holds-good.ensures)
 
 pub returns : goal.returns
-returns c = rw (c.loop-j.invariant.1, all_done _ _ _ _ _ c.loop-j-test.false)
+returns c = rw (c.loop-j.invariant, all_done _ _ _ _ _ c.loop-j-test.false)

@@ -1,8 +1,5 @@
-use borrow.Author.Tests.{eq-eqb, ne_eqb}
+use Rattle.plan.proofs.KindNumbers.{no_supervisor}
 use Rattle.plan_task.proofs.lowest_output.Goals as goal
 
-pub returns-then-kind-eq1 : goal.returns-then-kind-eq1
-returns-then-kind-eq1 c = rw (eq-eqb _ _ c.if-kind-eq1.true)
-
-pub returns-else-kind-eq1 : goal.returns-else-kind-eq1
-returns-else-kind-eq1 c = rw (ne_eqb _ _ c.if-kind-eq1.false)
+pub returns-in-Err : goal.returns-in-Err
+returns-in-Err c = rw (no_supervisor c.args.kind c.in-Err.ensures)

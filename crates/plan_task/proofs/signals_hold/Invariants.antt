@@ -8,9 +8,5 @@ use Rattle.plan.specs.File.{word, values}
 use Rattle.plan_task.proofs.signals_hold.Given as goal
 
 abbrev pub invariant-loop-j : goal.invariant-loop-j
-invariant-loop-j l = (l.j ≤ l.count)
-    × (all (λ x. ltb x l.signals) (values (words_of l.part) l.start l.count)
-    ≡ (l.good && all (λ x. ltb x l.signals) (tab (λ i. word (words_of l.part) (l.start + i)) l.j (l.count - l.j))))
-
-abbrev pub decreases-loop-j : goal.decreases-loop-j
-decreases-loop-j l = l.count - l.j
+invariant-loop-j l = all (λ x. ltb x l.signals) (values (words_of l.part) l.start l.count)
+    ≡ (l.good && all (λ x. ltb x l.signals) (tab (λ i. word (words_of l.part) (l.start + i)) l.j (l.count - l.j)))

@@ -9,9 +9,5 @@ use Rattle.plan_task.specs.Orders.{new_orders}
 use Rattle.plan_task.proofs.transitions_hold.Given as goal
 
 abbrev pub invariant-loop-j : goal.invariant-loop-j
-invariant-loop-j l = (l.j ≤ l.count)
-    × (transitions_rule l.inputs (transitions_from (words_of l.part) l.first l.count)
-    ≡ (l.good && new_orders l.inputs l.seen (tab (λ i. transition_at (words_of l.part) (l.first + i * 4)) l.j (l.count - l.j))))
-
-abbrev pub decreases-loop-j : goal.decreases-loop-j
-decreases-loop-j l = l.count - l.j
+invariant-loop-j l = transitions_rule l.inputs (transitions_from (words_of l.part) l.first l.count)
+    ≡ (l.good && new_orders l.inputs l.seen (tab (λ i. transition_at (words_of l.part) (l.first + i * 4)) l.j (l.count - l.j)))

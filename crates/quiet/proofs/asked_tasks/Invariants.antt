@@ -1,4 +1,3 @@
-use Prim.Native.Nat.{◌-◌}
 use Rattle.words.specs.Words.{words_of}
 use Rattle.steps.specs.Flat.{between}
 use Rattle.quiet.proofs.Asked.{AskedLater}
@@ -6,6 +5,3 @@ use Rattle.quiet.proofs.asked_tasks.Given as goal
 
 abbrev pub invariant-loop-p : goal.invariant-loop-p
 invariant-loop-p l = AskedLater l.tasks (between (words_of l.events) l.first l.last) (between (words_of l.events) l.p l.last)
-
-abbrev pub decreases-loop-p : goal.decreases-loop-p
-decreases-loop-p l = l.last - l.p

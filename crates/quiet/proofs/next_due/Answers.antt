@@ -13,4 +13,4 @@ pub overflow_sub-period : goal.overflow_sub-period
 overflow_sub-period c = le_of_lt (mod-lt _ c.requires)
 
 pub returns : goal.returns
-returns c = λ u l b. between-releases _ u _ _ (omega (arith, c.if-t-offset.false)) (omega (arith, c.if-past-eq0.false)) l (omega (arith, b, c.sum.ensures))
+returns c = λ u l b. between-releases _ u _ _ (omega (arith, c.if-t-offset.false)) (omega (arith, c.if-past-eq0.false)) l (omega (arith, b, c.saturating_add.ensures))

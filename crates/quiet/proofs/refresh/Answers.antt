@@ -1,15 +1,25 @@
+use mathlib.Core.Path.{refl}
 use native.Mathlib.Omega.{arith}
-use Rattle.quiet.proofs.Wakes.{fresh-none, fresh-more, fresh-done, next_after}
+use Rattle.quiet.proofs.Wakes.{fresh-none, fresh-more, fresh-done}
 use Rattle.quiet.proofs.refresh.Goals as goal
 
-pub loop-j-init : goal.loop-j-init
-loop-j-init c = fresh-none _ _ _ _ _ c.args.wakes.now _ c.requires.1 c.next-j.ensures
+pub loop-row-init : goal.loop-row-init
+loop-row-init c =
+    let few = c.requires.0 in
+    rw (c.into_iter-row-iterator.ensures.into_iter_gives, c.rows-row-items.ensures) ((omega arith, omega arith), tt, refl, refl, fresh-none _ _ _ _ _ c.args.wakes.now c.requires.1)
 
-pub loop-j-smaller : goal.loop-j-smaller
-loop-j-smaller c = let after = next_after _ _ _ c.next-j-in-loop-j.ensures in omega (arith, c.loop-j-test.true)
-
-pub loop-j-preserved : goal.loop-j-preserved
-loop-j-preserved c = rw c.put.ensures (fresh-more _ _ _ _ _ c.loop-j.wakes _ c.loop-j.invariant _ _ c.row_wake-one.ensures c.next-j-in-loop-j.ensures)
+pub loop-row-preserved : goal.loop-row-preserved
+loop-row-preserved c =
+    let s = c.loop-row.invariant in
+    let w = c.in-Some.ensures.steps in (
+      c.in-Some.ensures.goes.keeps,
+      tt,
+      rw w.rest s.2,
+      rw w.rest s.3,
+      rw (w.rest, c.put.ensures) (fresh-more _ _ _ _ _ c.loop-row.wakes _ s.4 _ _ c.row_wake-wake.ensures (rw s.2 at w.row)),
+    )
 
 pub returns : goal.returns
-returns c = fresh-done _ _ _ _ _ c.loop-j.wakes _ c.loop-j-test.false c.loop-j.invariant
+returns c =
+    let s = c.loop-row.invariant in
+    fresh-done _ _ _ _ _ c.loop-row.wakes _ (rw (s.2, s.3) at c.in-None.ensures.steps) s.4

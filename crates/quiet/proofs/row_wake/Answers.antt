@@ -15,7 +15,7 @@ returns-then-status-deadline c = λ u l b. due-quiet _ _ _ u (rw (← c.row_fiel
 pub returns-then-status : goal.returns-then-status
 returns-then-status c = λ u l b. flies_quiet _ _ _ u
     (rw (← c.row_field-task.ensures, ← c.row_field-deadline.ensures, ← c.task_field-status.ensures) c.if-status-deadline.false)
-    (rw (← c.row_field-task.ensures, ← c.row_field-deadline.ensures, ← c.task_field.ensures) (omega (arith, b, c.sum.ensures)))
+    (rw (← c.row_field-task.ensures, ← c.row_field-deadline.ensures, ← c.task_field.ensures) (omega (arith, b, c.saturating_add.ensures)))
 
 pub returns : goal.returns
 returns c = λ u l b. error-quiet _ _ _ u (rw (← c.row_field-task.ensures, ← c.row_field-deadline.ensures, ← c.task_field-status.ensures) c.if-status-deadline.false) (rw (← c.row_field-task.ensures, ← c.task_field-status.ensures) c.if-status.false)

@@ -9,8 +9,8 @@ use Rattle.room.proofs.count_grant.Goals as goal
 pub returns-then-asked-ne0 : goal.returns-then-asked-ne0
 returns-then-asked-ne0 c = record {
   counts = rw (c.start_task.ensures, c.row_field.ensures, c.row_field-task.ensures)
-      (grant-starts _ _ _ _ _ (c.count_asked-asked.result - 1) _
-      (rw (call-ready _ _ _ _ _ (rw c.row_field-task.ensures at (sym c.task_field-status.ensures ∙ c.if-status-eq-READY.true)), ← c.count_asked-asked.ensures, ne_eqb _ _ c.if-asked-ne0.true))
+      (grant-starts _ _ _ _ _ (c.asked_of-asked.result - 1) _
+      (rw (call-ready _ _ _ _ _ (rw c.row_field-task.ensures at (sym c.task_field-status.ensures ∙ c.if-status-eq-READY.true)), ← c.asked_of-asked.ensures, ne_eqb _ _ c.if-asked-ne0.true))
       (let n = c.if-asked-ne0.true in omega (arith, n)));
   small = omega arith;
 }
@@ -18,14 +18,14 @@ returns-then-asked-ne0 c = record {
 pub returns-then-status-eq-READY : goal.returns-then-status-eq-READY
 returns-then-status-eq-READY c = record {
   counts = grant-ignores _ _ _ _ _ _
-      (rw (call-ready _ _ _ _ _ (rw c.row_field-task.ensures at (sym c.task_field-status.ensures ∙ c.if-status-eq-READY.true)), ← c.count_asked-asked.ensures, eq-eqb _ _ c.if-asked-ne0.false));
+      (rw (call-ready _ _ _ _ _ (rw c.row_field-task.ensures at (sym c.task_field-status.ensures ∙ c.if-status-eq-READY.true)), ← c.asked_of-asked.ensures, eq-eqb _ _ c.if-asked-ne0.false));
   small = omega arith;
 }
 
 pub returns-then-period-eq0 : goal.returns-then-period-eq0
 returns-then-period-eq0 c = record {
   counts = grant-ignores _ _ _ _ _ _
-      (rw (call-events _ _ _ _ _ (λ z. c.if-status-eq-READY.false (c.task_field-status.ensures ∙ rw c.row_field-task.ensures z)) (sym c.row_field-period.ensures ∙ c.if-period-eq0.true), ← c.count_asked-asked.ensures));
+      (rw (call-events _ _ _ _ _ (λ z. c.if-status-eq-READY.false (c.task_field-status.ensures ∙ rw c.row_field-task.ensures z)) (sym c.row_field-period.ensures ∙ c.if-period-eq0.true), ← c.asked_of-asked.ensures));
   small = omega arith;
 }
 
@@ -35,7 +35,7 @@ returns-then-status-asked c = record {
       (grant-fails _ _ _ _ _
       (rw (
         call-periodic _ _ _ _ _ (λ z. c.if-status-eq-READY.false (c.task_field-status.ensures ∙ rw c.row_field-task.ensures z)) (λ z. c.if-period-eq0.false (c.row_field-period.ensures ∙ z)),
-        ← c.count_asked-asked.ensures,
+        ← c.asked_of-asked.ensures,
         ← c.row_field-task.ensures,
         ← c.row_field-deadline.ensures,
         ← c.task_field-status.ensures,
@@ -49,7 +49,7 @@ returns c = record {
   counts = grant-ignores _ _ _ _ _ _
       (rw (
         call-periodic _ _ _ _ _ (λ z. c.if-status-eq-READY.false (c.task_field-status.ensures ∙ rw c.row_field-task.ensures z)) (λ z. c.if-period-eq0.false (c.row_field-period.ensures ∙ z)),
-        ← c.count_asked-asked.ensures,
+        ← c.asked_of-asked.ensures,
         ← c.row_field-task.ensures,
         ← c.row_field-deadline.ensures,
         ← c.task_field-status.ensures,

@@ -10,4 +10,4 @@ returns c = λ plan a e.
     let lapses = c.count_lapses-lapses.ensures.counts in
     let grants = c.count_grants-grants.ensures.counts in
     ap (λ (n : ℕ). c.args.clock.at + 5 * n)
-    (step_counts known c.args.clock.tick c.args.clock.place c.args.last _ _ _ _ _ _ c.requires.last_is lapses grants (c.count_writes-writes.ensures.counts _ _) a (e ∙ sym c.copy.ensures))
+    (step_counts known c.args.clock.tick c.args.clock.place c.args.last _ _ _ _ _ _ c.requires.last_is lapses grants (c.count_writes-writes.ensures.counts _ _) a (e ∙ sym c.copy_from_slice.ensures.after))

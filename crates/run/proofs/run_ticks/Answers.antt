@@ -25,8 +25,8 @@ turn-one-requires c = record {
   whole_bodies = c.requires.whole_bodies;
 }
 
-pub overflow_add-total : goal.overflow_add-total
-overflow_add-total c = let m = c.turn-one.ensures.turned.most in omega arith
+pub overflow_add-done : goal.overflow_add-done
+overflow_add-done c = let m = c.turn-one.ensures.turned.most in omega arith
 
 pub returns-then-one : goal.returns-then-one
 returns-then-one c = kept_full _ _ _ _ _ _ _ _ _ c.loop-done.invariant.0 _ _ _ c.turn-one.ensures.turned c.if-one.true

@@ -1,3 +1,4 @@
+use borrow.Author.Rules.{rules}
 use Rattle.plan.proofs.Laws.{signals_length}
 use Rattle.state.specs.Fits.{fits}
 use Rattle.state.proofs.Laws.{place_told}
@@ -11,7 +12,7 @@ returns c = let plan = c.args.plan.now in
     let state = c.args.state in
     let right = state_sized state _ c.well_formed.1.1.0 in
     let place = place_told plan c.args.events.now c.requires state.tick state.place in
-    let tasks = apart plan state.tick state.tasks c.smaller-count.result (rw (c.smaller-count.ensures, c.word.ensures)) in
+    let tasks = apart plan state.tick state.tasks c.min-count.result (search rules) (rw (c.min-count.ensures, c.word.ensures)) in
     rw (
       right,
       ← place,

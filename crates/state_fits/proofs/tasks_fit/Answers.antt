@@ -1,25 +1,12 @@
-use Prim.Native.Nat.{◌-◌, ◌<◌}
-use mathlib.Core.Path.{◌≡◌, sym}
-use native.Mathlib.Omega.{arith}
-use Rattle.lists.proofs.Laws.{all_more, all_done}
-use Rattle.words.specs.Words.{words_of}
-use Rattle.plan.specs.File.{task_count}
-use Rattle.state_fits.proofs.Tasks.{in_plan}
+use Rattle.std.proofs.Common.{rules, ap, ◌∙◌, refl}
+use Rattle.std.proofs.lemmas.Iterator.{YieldsList-from_range}
+use Rattle.std.proofs.lemmas.Iterator.Search.{all_from_yields_List}
+use Rattle.lists.specs.Lists.{all}
+use Rattle.state.proofs.Zeros.{all-listed}
+use Rattle.state_fits.proofs.Tasks.{counted}
 use Rattle.state_fits.proofs.tasks_fit.Goals as goal
 
-pub loop-i-init : goal.loop-i-init
-loop-i-init c = let whole : c.args.count - 0 ≡ c.args.count = omega arith in
-    rw whole
-
-pub loop-i-preserved : goal.loop-i-preserved
-loop-i-preserved c = let less : c.loop-i.i < task_count (words_of c.args.plan.now) = omega (arith, c.loop-i-test.true, c.requires.0) in
-    rw (
-      c.loop-i.invariant,
-      all_more _ _ _ _ _ c.loop-i-test.true,
-      in_plan _ c.args.tick _ _ less,
-      c.task_fits-one.ensures,
-      c.task_part.ensures,
-    )
-
 pub returns : goal.returns
-returns c = sym (rw c.loop-i.invariant (all_done _ _ _ _ _ c.loop-i-test.false))
+returns c =
+    all_from_yields_List _ _ _ _ c.all.ensures.ran (YieldsList-from_range 0 c.args.count c.args.count refl (search rules)) (λ x b q called. search rules)
+    ∙ all-listed _ _ ∙ ap (all _) (counted 0 c.args.count)

@@ -1,5 +1,5 @@
 use Prim.Native.Nat.{ℕ}
-use Rattle.state.proofs.Laws.{from_more, from_done}
+use Rattle.state_fits.proofs.From.{from_more, from_done}
 use Rattle.state_fits.proofs.zeros_from.Goals as goal
 
 pub loop-i-preserved : goal.loop-i-preserved

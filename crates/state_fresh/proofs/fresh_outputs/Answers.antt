@@ -1,12 +1,6 @@
-use Rattle.state.proofs.Laws.{fill_none, fill_more, fill_done}
-use borrow.Author.Rules.{rules}
+use Rattle.std.proofs.Common.{rules}
+use Rattle.state.proofs.Made.{made}
 use Rattle.state_fresh.proofs.fresh_outputs.Goals as goal
 
-pub loop-i-init : goal.loop-i-init
-loop-i-init c = (search rules, fill_none _ _ _ _)
-
-pub loop-i-preserved : goal.loop-i-preserved
-loop-i-preserved c = (search rules, rw c.initial_output-x.ensures (fill_more _ _ _ _ _ c.loop-i-test.true c.loop-i.invariant.1))
-
 pub returns : goal.returns
-returns c = fill_done _ _ _ _ _ c.loop-i-test.false c.loop-i.invariant.1
+returns c = made _ _ _ _ _ 0 (λ i x next less called. search rules) c.from_fn.ensures.items

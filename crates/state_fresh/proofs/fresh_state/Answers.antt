@@ -1,15 +1,12 @@
-use Rattle.state.proofs.Laws.{fill_none, fill_more, fill_done}
-use Rattle.state.specs.State.{fresh}
+use Rattle.std.proofs.Common.{rules, map, get_or}
+use Rattle.plan.specs.File.{plan_of}
+use Rattle.state.specs.State.{fresh_task, fresh, idle}
 use Rattle.state.proofs.Laws.{fresh-task_at}
-use borrow.Author.Rules.{rules}
+use Rattle.state.proofs.Made.{made}
 use Rattle.state_fresh.proofs.fresh_state.Goals as goal
-
-pub loop-i-init : goal.loop-i-init
-loop-i-init c = (search rules, fill_none _ _ _ _)
-
-pub loop-i-preserved : goal.loop-i-preserved
-loop-i-preserved c = (search rules, rw (c.fresh_at-x.ensures, ← fresh-task_at) (fill_more _ _ _ _ _ c.loop-i-test.true c.loop-i.invariant.1))
 
 pub returns : goal.returns
 unfolding fresh
-returns c = rw (fill_done _ _ _ _ _ c.loop-i-test.false c.loop-i.invariant.1, c.fresh_signals-signals.ensures)
+returns c = let plan = plan_of c.args.plan.now in
+    let tasks = made _ _ (λ i. get_or (map (fresh_task plan.signals) plan.tasks) i idle) _ _ idle (λ i x next less called. rw fresh-task_at (search rules)) c.from_fn.ensures.items in
+    rw (c.fresh_signals.ensures, tasks)

@@ -3,4 +3,4 @@ use Rattle.state_fresh.proofs.zero_state.Goals as goal
 
 pub returns : goal.returns
 unfolding zero_state
-returns c = rw c.idle_task-task.ensures
+returns c = rw c.idle_task.ensures

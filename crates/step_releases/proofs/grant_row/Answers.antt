@@ -51,6 +51,6 @@ returns c = record {
             (rw (c.row_field-period.ensures, c.row_field-deadline.ensures, c.task_field-status.ensures, c.row_field-task.ensures) at (sym c.is_closed.ensures ∙ c.if-is_closed.false)),
         ← c.row_field-task.ensures,
       )
-      (record { arrays = rw c.reset_task.ensures; trace = c.put.ensures; ends = omega arith });
+      (record { arrays = rw c.reset_task.ensures; trace = rw c.new.ensures at c.put.ensures; ends = omega arith });
   near = omega arith;
 }

@@ -1,73 +1,41 @@
-use Prim.Native.Nat.{◌+◌}
+use native.Mathlib.Nat.{le_refl}
 use native.Mathlib.Omega.{arith}
-use mathlib.Core.Path.{refl}
-use borrow.Author.Rules.{rules}
-use Rattle.turns.proofs.Laws.{next_from, next_below, next_at}
 use Rattle.words.specs.Words.{words_of}
+use Rattle.turns.proofs.Laws.{next_from, next_below, next_at, none_below}
 use Rattle.trace.specs.Trace.{over}
 use Rattle.steps.specs.Flat.{between, grant, called}
-use Rattle.steps.proofs.Laws.{sofar_none, rows_done}
+use Rattle.steps.proofs.Laws.{rows_done}
 use Rattle.steps.proofs.Called.{sofar_next, sofar_called}
 use Rattle.step_releases.proofs.releases.Invariants.{arrays}
 use Rattle.step_releases.proofs.releases.Goals as goal
 
-pub loop-j-init : goal.loop-j-init
-loop-j-init c = let e = c.next-j.ensures in
-    record {
-      here = λ h. next_at _ 0 _ e (omega arith);
-      turns = 0;
-      passed = search rules;
-      most = search rules;
-      room = search rules;
-      tasks-long = refl;
-      latched-long = refl;
-      trace_long = refl;
-      sofar = λ held. sofar_next _ _ _ _ _ _ _ _ _ _ _ (next_from _ 0 _ e) (next_below _ 0 _ e) (sofar_none _ _ _ _ _);
-    }
-
-pub grant_row-at-requires : goal.grant_row-at-requires
-grant_row-at-requires c = let r = c.loop-j.invariant.room in let m = c.loop-j.invariant.most in omega arith
-
-pub loop-j-smaller : goal.loop-j-smaller
-loop-j-smaller c = let l = c.loop-j-test.true in let m = next_from _ _ _ c.next-j-in-loop-j.ensures in omega arith
-
-pub loop-j-preserved : goal.loop-j-preserved
-loop-j-preserved c = let s = c.loop-j.invariant in
-    let r = s.room in
-    let p = s.passed in
-    let l = c.loop-j-test.true in
-    let near = c.grant_row-at.ensures.near in
-    let e = c.next-j-in-loop-j.ensures in
+pub loop-row-preserved : goal.loop-row-preserved
+loop-row-preserved c = let s = c.loop-row.invariant.2 in
+    let w = c.in-Some.ensures.steps in
+    let e = rw s.same_calls at w.row in
+    let l = rw s.same_count at w.below in
     let m = next_from _ _ _ e in
-    record {
-      here = λ h. next_at _ _ _ e (omega arith);
-      turns = s.turns + 1;
-      passed = omega arith;
-      most = omega arith;
-      room = omega arith;
-      tasks-long = search rules;
-      latched-long = search rules;
-      trace_long = search rules;
-      sofar = λ held.
-          let d = c.grant_row-at.ensures.does held in
-          sofar_next _ _ _ _ _ _ _ _ _ _ _ m (next_below _ _ _ e) (rw (d.arrays, d.trace, d.ends) (sofar_called _ _ _ _ _ _ _ _ _ _ l (s.here l) (s.sofar held)));
-    }
+    let r = s.room in
+    let near = c.grant_row-at.ensures.near in (
+      c.in-Some.ensures.goes.keeps,
+      tt,
+      record {
+        same_calls = rw w.rest s.same_calls;
+        same_count = rw w.rest s.same_count;
+        room = rw w.rest (omega arith);
+        sofar = λ held.
+            let d = c.grant_row-at.ensures.does held in
+            rw (w.rest, d.arrays, d.trace, d.ends)
+            (sofar_called _ _ _ _ _ _ _ _ _ _ l (next_at _ _ _ e (omega arith)) (sofar_next _ _ _ _ _ _ _ _ _ _ _ m (next_below _ _ _ e) (s.sofar held)));
+      },
+    )
 
-pub shape_of-tasks : goal.shape_of-tasks
-shape_of-tasks c = c.loop-j.invariant.tasks-long
-
-pub shape_of-latched : goal.shape_of-latched
-shape_of-latched c = c.loop-j.invariant.latched-long
-
-pub shape_of-trace : goal.shape_of-trace
-shape_of-trace c = c.loop-j.invariant.trace_long
-
-pub returns : goal.returns
+pub returns-clause-does : goal.returns-clause-does
 unfolding over
-returns c = record {
-  does = λ held.
-      let s = c.loop-j.invariant.sofar held in
-      let d = rows_done (called c.args.calls (grant c.args.moment.t c.args.rows.now (between (words_of c.args.events.now) c.args.moment.first c.args.moment.last))) c.args.count c.loop-j.j (arrays c.args.signals.now c.loop-j.tasks c.loop-j.latched held) c.loop-j-test.false in
-      record { arrays = rw (s.arrays, d); trace = rw (s.trace, d); ends = rw (s.ends, d) (omega arith) };
-  near = let r = c.loop-j.invariant.room in let m = c.loop-j.invariant.most in omega arith;
-}
+returns-clause-does c = λ held.
+    let s = c.loop-row.invariant.2 in
+    let n = rw (s.same_calls, s.same_count) at c.in-None.ensures.steps in
+    let most = rw s.same_count at c.loop-row.invariant.0.0 in
+    let e = sofar_next _ _ _ _ _ _ _ _ _ _ c.args.count most (none_below _ _ _ n) (s.sofar held) in
+    let d = rows_done (called c.args.calls (grant c.args.moment.t c.args.rows.now (between (words_of c.args.events.now) c.args.moment.first c.args.moment.last))) c.args.count c.args.count (arrays c.args.signals.now c.loop-row.tasks c.loop-row.latched held) (le_refl _) in
+    record { arrays = rw (e.arrays, d); trace = rw (e.trace, d); ends = rw (e.ends, d) (omega arith) }

@@ -1,18 +1,8 @@
-use Rattle.std.proofs.Common.{◌≡◌, length, arith}
-use Rattle.urgent.proofs.Laws.{least-none, least_more, least-all}
+use Rattle.std.proofs.Common.{◌≡◌, ◌∙◌, min, map, rules}
+use Rattle.std.specs.List.{fold}
+use Rattle.urgent.specs.Urgent.{no_rank, key_of}
+use Rattle.urgent.proofs.Laws.{least_fold}
 use Rattle.urgent.proofs.most_urgent.Goals as goal
 
-pub loop-i-init : goal.loop-i-init
-loop-i-init c = record { within = omega arith; bound = omega arith; left = least-none c.args.records.now }
-
-pub loop-i-preserved : goal.loop-i-preserved
-loop-i-preserved c =
-    let more = least_more c.args.records.now c.loop-i.i c.loop-i.best c.loop-i-test.true in
-    record { within = omega arith; bound = omega arith; left = cc }
-
--- at the end no record is left
 pub returns : goal.returns
-returns c =
-    let all = least-all c.args.records.now c.loop-i.best c.loop-i.invariant.bound in
-    let end : c.loop-i.i ≡ length c.args.records.now = omega arith in
-    cc
+returns c = let e : c.fold.result ≡ fold min no_rank (map key_of c.args.records.now) = search rules in e ∙ least_fold c.args.records.now

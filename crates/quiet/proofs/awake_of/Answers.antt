@@ -1,0 +1,15 @@
+use native.Mathlib.Omega.{arith}
+use Rattle.quiet.proofs.Wakes.{all_more}
+use Rattle.quiet.proofs.awake_of.Goals as goal
+
+pub loop-j-init : goal.loop-j-init
+loop-j-init c = λ k h. absurd (omega (arith, h))
+
+pub overflow_shl-calls : goal.overflow_shl-calls
+overflow_shl-calls c = omega arith
+
+pub loop-j-preserved : goal.loop-j-preserved
+loop-j-preserved c = all_more _ _ _ _ (omega arith) c.loop-j.invariant c.from.ensures
+
+pub returns : goal.returns
+returns c = λ k h. c.loop-j.invariant k (omega (arith, h, c.loop-j-test.false))

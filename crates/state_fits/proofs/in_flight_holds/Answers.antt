@@ -1,6 +1,0 @@
-use Rattle.plan.specs.File.{task_of}
-use Rattle.state_fits.proofs.in_flight_holds.Goals as goal
-
-pub returns : goal.returns
-unfolding task_of
-returns c = rw (c.period_holds.ensures, c.word-deadline.ensures)
