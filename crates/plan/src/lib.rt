@@ -63,10 +63,10 @@ pub enum TaskKind {
 // "An action's kind is 1..4"; "1 set", "2 copy", "3 add", "4 move"
 #[derive(Clone, Copy, PartialEq, Eq)]
 pub enum ActionKind {
-    Set,
-    Copy,
-    Add,
-    Move,
+    Set = 1,
+    Copy = 2,
+    Add = 3,
+    Move = 4,
 }
 
 // A word of a file that is the number of no kind.

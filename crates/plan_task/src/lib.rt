@@ -143,21 +143,20 @@ fn action_holds(part: &[u8], at: usize, ports: Ports) -> bool
     ensures { result ≡ action_rule ports.inputs ports.outputs ports.lowest (action_at (words_of part.now) at) }
 {
     let state = known(part, at);
+    let kind = known(part, at + 1);
     let a = known(part, at + 2);
     let b = known(part, at + 3);
     let c = known(part, at + 4);
-    let first = ((1 <= state) & (state <= limits::STATES))
+    // By number and without a branch: by a match on the kind the check of a plan took 1.7 times as long where kinds are mixed.
+    let moves = kind == ActionKind::Move as u32;
+    let second = (moves & (ports.lowest <= b) & (b < ports.outputs) & (b != a))
+        | (!moves & (b == 0));
+    ((1 <= state) & (state <= limits::STATES))
+        & ((ActionKind::Set as u32 <= kind) & (kind <= ActionKind::Move as u32))
         & (ports.lowest <= a)
-        & (a < ports.outputs);
-    match ActionKind::try_from(known(part, at + 1)) {
-        Ok(ActionKind::Set) => first & (b == 0),
-        Ok(ActionKind::Copy) => first & (b == 0) & (c < ports.inputs),
-        Ok(ActionKind::Add) => first & (b == 0) & (c < ports.inputs),
-        Ok(ActionKind::Move) => {
-            first & ((ports.lowest <= b) & (b < ports.outputs) & (b != a)) & (c < ports.inputs)
-        }
-        Err(NoKind) => false,
-    }
+        & (a < ports.outputs)
+        & second
+        & ((kind == ActionKind::Set as u32) | (c < ports.inputs))
 }
 
 // Rule 6, the actions.
