@@ -18,6 +18,6 @@ pub record Taken (s : Called) (j : ℕ) (t : Called) : Type 0 where
   pub below : j < s.count
   pub rest : t ≡ record { calls = s.calls; from = j + 1; count = s.count }
 
--- the next row comes, or there is none below the count
+-- the next row comes, or there is none below the count, and then nothing has changed
 abbrev pub GivesNext : Called → Option ℕ → Called → Type 0
-GivesNext s r t = MatchOption r (s.count ≤ next_row s) (λ j. Taken s j t)
+GivesNext s r t = MatchOption r ((s.count ≤ next_row s) × (t ≡ s)) (λ j. Taken s j t)

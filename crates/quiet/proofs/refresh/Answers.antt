@@ -22,4 +22,4 @@ loop-row-preserved c =
 pub returns : goal.returns
 returns c =
     let s = c.loop-row.invariant in
-    fresh-done _ _ _ _ _ c.loop-row.wakes _ (rw (s.2, s.3) at c.in-None.ensures.steps) s.4
+    fresh-done _ _ _ _ _ c.loop-row.wakes _ (rw (s.2, s.3) at c.in-None.ensures.steps.0) s.4

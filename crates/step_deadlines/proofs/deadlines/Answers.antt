@@ -33,7 +33,7 @@ pub returns-clause-does : goal.returns-clause-does
 unfolding over
 returns-clause-does c = λ latched.
     let s = c.loop-row.invariant.2 in
-    let n = rw (s.same_calls, s.same_count) at c.in-None.ensures.steps in
+    let n = rw (s.same_calls, s.same_count) at c.in-None.ensures.steps.0 in
     let most = rw s.same_count at c.loop-row.invariant.0.0 in
     let e = sofar_next _ _ _ _ _ _ _ _ _ _ c.args.count most (none_below _ _ _ n) (s.sofar latched) in
     let d = rows_done (called c.args.calls (lapse c.args.t c.args.rows.now)) c.args.count c.args.count (arrays c.loop-row.signals c.loop-row.tasks latched c.args.held.now) (le_refl _) in

@@ -34,7 +34,7 @@ pub returns-clause-does : goal.returns-clause-does
 unfolding over
 returns-clause-does c = λ held.
     let s = c.loop-row.invariant.2 in
-    let n = rw (s.same_calls, s.same_count) at c.in-None.ensures.steps in
+    let n = rw (s.same_calls, s.same_count) at c.in-None.ensures.steps.0 in
     let most = rw s.same_count at c.loop-row.invariant.0.0 in
     let e = sofar_next _ _ _ _ _ _ _ _ _ _ c.args.count most (none_below _ _ _ n) (s.sofar held) in
     let d = rows_done (called c.args.calls (grant c.args.moment.t c.args.rows.now (between (words_of c.args.events.now) c.args.moment.first c.args.moment.last))) c.args.count c.args.count (arrays c.args.signals.now c.loop-row.tasks c.loop-row.latched held) (le_refl _) in
