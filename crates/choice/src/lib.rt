@@ -41,7 +41,7 @@ pub fn running_row(rows: &[u32], count: u32, tasks: &[u32]) -> u32
     requires { count ≤ max_tasks }
     ensures { result ≡ first_active rows.now tasks.now count 0 }
 {
-    for j in (0..count).step_by(urgent::PAIR) {
+    for j in (0..count).step_by(urgent::PAIR as usize) {
         let row = least_of_pair(rows, j, tasks);
         if row < count {
             return row;

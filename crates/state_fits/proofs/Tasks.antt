@@ -46,7 +46,7 @@ all_from p d xs zero k size = let least : length xs ≤ k = omega arith in rw (d
 all_from p d xs (suc n) k size = let less : k < length xs = omega arith in rw (drop-cons xs k d less, all_from p d xs n (k + 1) (omega arith), add-one k)
 
 module _ (bytes : List ℕ) (t : ℕ) where
-  in_plan : (i : ℕ) (x : TaskState) → i < task_count (words_of bytes) → task_rule (plan_of bytes) t i x ≡ task_fits t (task_of (words_of (body_part bytes i))) x
+  pub in_plan : (i : ℕ) (x : TaskState) → i < task_count (words_of bytes) → task_rule (plan_of bytes) t i x ≡ task_fits t (task_of (words_of (body_part bytes i))) x
   unfolding task_rule
   in_plan i x h = rw (task_in_lem bytes i h, ← task_read bytes i h)
 

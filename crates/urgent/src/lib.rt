@@ -5,7 +5,9 @@ ghost use Rattle.std.specs.Prelude.{◌≡◌};
 ghost use Rattle.urgent.specs.Urgent.{key_of, least_rank};
 
 // So many records are lent at a time. Rows stand in order of priority, so the first pair with an ACTIVE record ends the search.
-pub const PAIR: usize = 2;
+pub const PAIR: u32 = 2;
+
+const RECORDS: usize = PAIR as usize;
 
 // What stands for no rank: above every rank that a task has, so that a fold by `min` may begin with it.
 pub const NONE: u32 = limits::TOP_VALUE as u32;
@@ -37,7 +39,7 @@ pub fn most_urgent(records: &[TaskRecord]) -> u32
 }
 
 // The same of a pair that is passed by value: it lends its own copy, so whoever calls it lends nothing.
-pub fn urgent_of(pair: [TaskRecord; PAIR]) -> u32
+pub fn urgent_of(pair: [TaskRecord; RECORDS]) -> u32
     ensures { result ≡ least_rank pair }
 {
     most_urgent(&pair)
