@@ -30,6 +30,7 @@ fn ports_in(ports: &[u32], task: u32) -> [u32; ALL_PORTS]
 }
 
 // One task; the signals are no part of it.
+#[tactic(auto, unfolding(state::specs::Numbers::status_of))]
 fn task_in(tasks: &[u32], latched: &[u32], held: &[u32], task: u32) -> TaskState
     ensures { result ≡ task_in (record { signals = []; tasks = tasks.now; latched = latched.now; held = held.now }) task }
 {
@@ -55,8 +56,8 @@ pub fn together(
     ensures { result ≡ record { tick = tick; place = place; signals = signals; tasks = whole (record { signals = signals; tasks = tasks.now; latched = latched.now; held = held.now }) } }
 {
     // A loop, and one over the ports: with `from_fn`, and tests in `state_fits` that end early, a call of one tick took a quarter
-    // longer. Every place is stored below. To fill them with a task that is read would call `task_in` in a second place: then the compiler no longer makes
-    // it part of this loop, and tests each read for an array whose length it knows here.
+    // longer. Every place is stored below. To fill them with a task that is read would call `task_in` in a second place: then the
+    // compiler no longer makes it part of this loop, and tests each read for an array whose length it knows here.
     let empty = TaskState {
         status: Status::READY,
         remaining: 0,
@@ -79,6 +80,7 @@ pub fn together(
 }
 
 // The four numbers of a task.
+#[tactic(auto, unfolding(state::specs::Numbers::number_of))]
 fn four_of(x: &TaskState) -> [u32; arrays::FIELDS]
     ensures { result ≡ four_of x.now }
 {

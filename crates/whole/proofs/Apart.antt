@@ -29,6 +29,17 @@ status_same ACTIVE = refl
 status_same FINISHED = refl
 status_same ERROR = refl
 
+-- the first of a task's four numbers is that of its status, for each of the four
+status_kept : (x : TaskState) → status_of (get_or (four_of x) 0 0) ≡ x.status
+unfolding status_of number_of
+status_kept x = go x.status refl
+  where
+    go : (s : Status) → x.status ≡ s → status_of (get_or (four_of x) 0 0) ≡ s
+    go READY e = rw e refl
+    go ACTIVE e = rw e refl
+    go FINISHED e = rw e refl
+    go ERROR e = rw e refl
+
 -- ---- w numbers are read off each task
 module _ (f : TaskState → List ℕ) (w : ℕ) where
   off_length : (xs : List TaskState) → Every (λ x. length (f x) ≡ w) xs → length (off_each f xs) ≡ length xs * w
@@ -96,7 +107,7 @@ module _ (s : State) (sized : fitting.StateSizes s) where
 
   task_same : (i : ℕ) → i < length s.tasks → task_in (apart s) i ≡ at i
   task_same i less =
-      rw (four i 0 less (omega arith), four i 1 less (omega arith), four i 2 less (omega arith), four i 3 less (omega arith), status_same (at i).status, ports_same (λ x. x.latched) eights i less, ports_same (λ x. x.held) held_eights i less)
+      rw (four i 0 less (omega arith), four i 1 less (omega arith), four i 2 less (omega arith), four i 3 less (omega arith), status_kept (at i), ports_same (λ x. x.latched) eights i less, ports_same (λ x. x.held) held_eights i less)
 
   pub whole_apart : whole (apart s) ≡ s.tasks
   whole_apart =

@@ -2,4 +2,4 @@ use Rattle.answers.proofs.Laws.{ok_is_0}
 use Rattle.answers.proofs.accepted.Goals as goal
 
 pub returns : goal.returns
-returns c = rw (c.is_ok.ensures.value, ok_is_0 c.args.answer)
+returns c = let e = ok_is_0 c.args.answer in cc
